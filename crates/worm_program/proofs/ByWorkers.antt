@@ -123,6 +123,7 @@ module _ (stop pass : ℕ → ℕ → Type 0) (script : List Entry) (plan : RunP
       let ran = so.ran in
       record {
         ran = record {
+          workers = ran.workers;
           end = ran.end;
           exact = ran.exact;
           runs = ran.runs;

@@ -20,7 +20,7 @@ use Rattle.worm_run.specs.declared.plan.RunPlan.{RunPlan}
 use Rattle.worm_run.specs.declared.plan.Stop.{Stop}
 use Rattle.worm_split.specs.declared.stop.StopWhy.{StopWhy}
 use Rattle.worm_split.specs.declared.stop.StopWhy.TheVariants.{Gate, NoMemory, Refused}
-use Rattle.worm_run.specs.Runs.{IsRunOf, RunsTo}
+use Rattle.worm_run.specs.Runs.{HasWorkers, IsRunOf, RunsTo}
 use Rattle.worm_text.specs.Network.{Network}
 use Rattle.worm_text.specs.ScriptView.{said_of}
 use Rattle.worm_report.specs.declared.summary.Summary.{Summary}
@@ -66,10 +66,11 @@ DrainsUnstopped most [] old fault new = Drains most old fault new
 DrainsUnstopped most (s ∷ stops) old fault new =
     (fault ≡ (if lack_memory (s ∷ stops) then Some NoRoom else None)) × (new ≡ old)
 
--- The workers ran: each took its turns on its part, which is what a run may give and of which the headline holds; and
--- then the drain where nobody was stopped.
+-- There are at most as many workers as nodes, and they ran: each took its turns on its part, which is what a run may
+-- give and of which the headline holds; and then the drain where nobody was stopped.
 pub record RanTogether (may_stop may_pass : ℕ → ℕ → Type 0) (script : List Entry) (plan : RunPlan) (most : ℕ)
     (opening closing : NetState) (table : List (Option ℕ)) (fault : Option StepFault) : Type 0 where
+  pub workers : HasWorkers opening plan
   pub end : RunEnd
   pub exact : IsRunOf may_stop may_pass script plan opening end
   pub runs : RunsTo may_stop may_pass script plan opening end
@@ -78,8 +79,10 @@ pub record RanTogether (may_stop may_pass : ℕ → ℕ → Type 0) (script : Li
   pub stopped : AreStopsOf end.stops.items table
   pub drained : DrainsUnstopped most end.stops.items end.net fault closing
 
--- there was no memory for their parts, and the network is as it was
-pub record NeverRan (opening closing : NetState) (table : List (Option ℕ)) (fault : Option StepFault) : Type 0 where
+-- there are at most as many as nodes, but there was no memory for their parts, and the network is as it was
+pub record NeverRan (plan : RunPlan) (opening closing : NetState) (table : List (Option ℕ))
+    (fault : Option StepFault) : Type 0 where
+  pub workers : HasWorkers opening plan
   pub same : closing ≡ opening
   pub stopped : AreStopsOf [] table
   pub want : fault ≡ Some NoRoom
@@ -87,7 +90,8 @@ pub record NeverRan (opening closing : NetState) (table : List (Option ℕ)) (fa
 abbrev pub EndsTogether : (may_stop may_pass : ℕ → ℕ → Type 0) → List Entry → RunPlan → ℕ → NetState → NetState
     → List (Option ℕ) → Option StepFault → Type 0
 EndsTogether may_stop may_pass script plan most opening closing table fault =
-    RanTogether may_stop may_pass script plan most opening closing table fault ⊎ NeverRan opening closing table fault
+    RanTogether may_stop may_pass script plan most opening closing table fault
+    ⊎ NeverRan plan opening closing table fault
 
 -- The workers ran, and no source refused an entry: each was stopped by its gate or for want of memory, if at all, and
 -- nothing but want of memory ended the drain.
@@ -101,7 +105,8 @@ pub record RanUnrefused (may_stop may_pass : ℕ → ℕ → Type 0) (script : L
 abbrev pub EndsUnrefused : (may_stop may_pass : ℕ → ℕ → Type 0) → List Entry → RunPlan → ℕ → NetState → NetState
     → List (Option ℕ) → Option StepFault → Type 0
 EndsUnrefused may_stop may_pass script plan most opening closing table fault =
-    RanUnrefused may_stop may_pass script plan most opening closing table fault ⊎ NeverRan opening closing table fault
+    RanUnrefused may_stop may_pass script plan most opening closing table fault
+    ⊎ NeverRan plan opening closing table fault
 
 -- the workers ran, none was stopped but by its gate, and no fault ended the drain
 pub record RanWhole (may_stop may_pass : ℕ → ℕ → Type 0) (script : List Entry) (plan : RunPlan) (most : ℕ)

@@ -8,7 +8,7 @@ use std::alloc::Global;
 use std::io::Write;
 use std::process::Abort;
 use std::sync::Wait;
-use std::sync::atomic::{AtomicBool, Ordering};
+use std::sync::atomic::{AtomicBool, AtomicU64, Ordering};
 use std::test::Fail;
 use std::thread;
 use std::thread::Threads;
@@ -223,6 +223,44 @@ fn two_workers_meet(rt: HostRuntime) -> Result<(), Fail> {
     is_up(&rt, &gate.first);
     is_up(&rt, &gate.second);
     Ok(())
+}
+
+/// Counts how often it is asked.
+#[derive(Drop)]
+struct Counting {
+    asked: AtomicU64,
+}
+
+impl Gate for Counting {
+    ghost may_stop = { λ _ _ _. ⊥ };
+
+    fn pass(&self, _worker: usize, _turn: u64) -> bool {
+        self.asked.fetch_add(1, Ordering::SeqCst);
+        true
+    }
+}
+
+/// So many workers, in so many turns before a drain, ask their gate so often.
+fn asks(rt: &(impl Threads + Wait + Sync + Abort), alloc: Global, run: (usize, u64), wanted: u64) {
+    let (workers, turns) = run;
+    let gate = Counting {
+        asked: AtomicU64::new(0),
+    };
+    let texts = (TWO_NODES, TWO_WORDS);
+    let ran = run_both(rt, alloc, texts, (turns, workers, 10), &gate);
+    answers(rt, ran.answer, Ok(()));
+    assert_eq!(rt; gate.asked.load(Ordering::SeqCst), wanted);
+}
+
+#[test]
+fn one_worker_asks_no_gate(rt: HostRuntime) {
+    asks(&rt, rt.alloc(), (1, 7), 0);
+}
+
+#[test]
+fn two_workers_ask_the_gate_before_each_turn(rt: HostRuntime) {
+    asks(&rt, rt.alloc(), (2, 1), 2);
+    asks(&rt, rt.alloc(), (2, 7), 14);
 }
 
 #[test]

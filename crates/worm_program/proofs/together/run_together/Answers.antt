@@ -8,6 +8,7 @@ returns-in-Ok-clause-ended g c =
     let end = c.in-Ok.end in
     let told = c.in-Ok.ensures in
     inl (record {
+      workers = c.requires;
       end = end;
       exact = told.exact;
       runs = told.runs;
