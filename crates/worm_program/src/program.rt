@@ -97,8 +97,8 @@ fn accept(alloc: Global, network: &[u8], traffic: &[u8]) -> Result<Accepted, Pro
     }
 }
 
-/// The network that an accepted text says, with nothing offered, and memory for all that the script brings; none where
-/// there is no memory for it.
+/// The network that an accepted text says, with nothing offered; none where there is no memory for it. It takes memory
+/// ahead for what the script brings. Where that is refused, each turn asks for what it needs.
 fn open(alloc: Global, config: &Config, script: &Script) -> Option<Net>
     requires { (format : Format) × KeepsRules format (view config.now) }
     ensures { IfSome result (IsFresh config.now.radices.items config.now.channels.items config.now.depth
@@ -109,7 +109,7 @@ fn open(alloc: Global, config: &Config, script: &Script) -> Option<Net>
         Err(NetFault::NoMemory) => return None,
         Err(NetFault::BadConfig) => unreachable!(),
     };
-    net.make_room(script).ok()?;
+    let _ = net.make_room(script);
     Some(net)
 }
 

@@ -241,7 +241,7 @@ impl Gate for Counting {
 }
 
 /// So many workers, in so many turns before a drain, ask their gate so often.
-fn asks(rt: &(impl Threads + Wait + Sync + Abort), alloc: Global, run: (usize, u64), wanted: u64) {
+fn asks<R: Threads + Wait + Sync + Abort>(rt: &R, alloc: Global, run: (usize, u64), wanted: u64) {
     let (workers, turns) = run;
     let gate = Counting {
         asked: AtomicU64::new(0),
