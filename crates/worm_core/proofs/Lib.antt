@@ -1,5 +1,6 @@
 pub mod RunSteps
 pub mod Headline
+pub mod StepMoves
 pub mod TotalsUnderWay
 pub mod NetWays
 pub mod Lifting

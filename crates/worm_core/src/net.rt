@@ -3,11 +3,13 @@
 ghost use Rattle.std.specs.Prelude.{None, Some, ◌≡◌, ◌≤◌, ◌<◌, ◌↔◌, Result, IsTrue};
 ghost use Rattle.std.specs.Prelude.{IfOk, Ok, length, take, Err};
 ghost use Rattle.worm_region.specs.Runs.{AreAnswered, IsRun, StopsBehind, event_of};
-ghost use Rattle.worm_region.specs.Answers.{Answers, ArbitersStand};
+ghost use Rattle.worm_region.specs.Answers.{Answers, ArbitersStand, AsksSource};
+ghost use Rattle.worm_region.specs.declared.step.Moved.TheVariants.{Idle};
 ghost use Rattle.worm_theory.specs.Steps.{empty};
 ghost use Rattle.worm_region.specs.NewNet.{IsConfig, IsFresh};
 ghost use Rattle.worm_core.specs.NetRests.{NetRests};
 ghost use Rattle.worm_core.specs.Headline.{DeliversInOrder, NothingFollowsMarks};
+ghost use Rattle.worm_core.specs.StepMoves.{MovesOneLane};
 ghost use Rattle.worm_region.specs.State.{IsNet, shape, network_of, queue_of, sink_at, source_at, texts_of};
 ghost use Rattle.worm_region.specs.Turns.{Reaches, Turn};
 ghost use Rattle.worm_script.specs.Script.{due};
@@ -168,13 +170,17 @@ impl Net {
         u16::from(lane.src) < nodes && u16::from(lane.dst) < nodes && lane.class < self.classes()
     }
 
-    /// One step (Dally and Towles, chapters 13 and 16). `Done` where it was enabled, `Idle` where its place is there
-    /// and it was not. `NoSuchPlace` where the network has not its node, port, channel or class, or its port has not
+    /// One step (Dally and Towles, chapters 13 and 16): at most one move of one lane. `Done` where it was enabled,
+    /// `Idle` where its place is there and it was not, which no Offer or Close is answered. `NoSuchPlace` where the network has not its node, port, channel or class, or its port has not
     /// the link that it needs; `Refused` where a source refuses a packet or a mark, also for its lane's nodes or class;
     /// `NoMemory` where it was enabled and there is none for an accepted or a delivered flit. With these, and with
     /// `Idle`, nothing changed.
     pub fn step(&mut self, step: &Step) -> Result<Moved, StepFault>
         ensures answers { Answers self.old (event_of step.now) result self.new }
+        ensures asked { AsksSource (event_of step.now) → result ≡ Ok Idle → ⊥ }
+        ensures moves { MovesOneLane self.old (event_of step.now) result self.new }
+        ensures sound { IsNet self.new }
+        ensures delivers { DeliversInOrder self.new }
 
         // Arbiters are for turns alone.
         ensures pointers { ArbitersStand self.old self.new }
@@ -239,6 +245,7 @@ impl Net {
         ensures stopped { StopsBehind result.done steps.now result.fault self.new }
         ensures led { IsRun self.old self.new steps.now result.done }
         ensures pointers { ArbitersStand self.old self.new }
+        ensures sound { IsNet self.new }
         ensures delivers { DeliversInOrder self.new }
         ensures marks { NothingFollowsMarks self.old self.new }
     {
@@ -254,6 +261,7 @@ impl Net {
     pub fn turn(&mut self, turn: u64, script: &Script) -> Result<(), StepFault>
         ensures exact { Turn (due turn script.now) self.old (result_err result) self.new }
         ensures reaches { Reaches self.old self.new }
+        ensures sound { IsNet self.new }
         ensures delivers { DeliversInOrder self.new }
         ensures marks { NothingFollowsMarks self.old self.new }
     {

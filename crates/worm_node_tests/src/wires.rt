@@ -7,13 +7,11 @@ use std::alloc::Global;
 use std::process::Abort;
 use worm_cases::single;
 use worm_flit::{Flit, SmallSet};
-use worm_route::AddressRoom;
 use worm_wires::{Inboxes, LinkState, Links, Wiring};
 
 /// The wiring of the mesh with these radices.
-fn wiring_of<R: Abort + AllocGlobal>(rt: &R, radices: &[u8]) -> Wiring {
-    let room = AddressRoom::new(rt.alloc()).expect(rt, "memory for addresses");
-    Wiring::new(mesh_of(rt, radices), room)
+fn wiring_of(rt: &impl Abort, radices: &[u8]) -> Wiring {
+    Wiring::new(mesh_of(rt, radices))
 }
 
 /// The node beyond a port, the port that is entered there, and the numbers of the links out of the port and into it.

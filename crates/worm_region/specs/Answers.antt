@@ -27,6 +27,18 @@ refusal_of s (Take x p) = None
 refusal_of s (GiveCredit x p v) = None
 refusal_of s (TakeCredit x o) = None
 
+-- the step asks a source
+abbrev pub AsksSource : Step → Type 0
+AsksSource (Offer x lane words) = Unit {0}
+AsksSource (CloseLane x lane) = Unit {0}
+AsksSource (Feed x k) = ⊥
+AsksSource (Route x p v) = ⊥
+AsksSource (Grant x p v c) = ⊥
+AsksSource (Send x p v) = ⊥
+AsksSource (Take x p) = ⊥
+AsksSource (GiveCredit x p v) = ⊥
+AsksSource (TakeCredit x o) = ⊥
+
 -- the step makes a source's or a sink's list longer
 abbrev pub Grows : Shape → Network → Step → Type 0
 Grows s net (Offer x lane words) = Unit {0}

@@ -5,8 +5,8 @@ ghost use Rattle.std.specs.Prelude.{sum, length, IfSome, IfOk, Err, ◌↔◌};
 ghost use Rattle.worm_theory.specs.Steps.{IsThere, Step as Event};
 ghost use Rattle.worm_region.specs.Runs.{event_of};
 ghost use Rattle.worm_region.specs.Replies.{Attempts, Replies};
-ghost use Rattle.worm_region.specs.Answers.{accepted_of, moved_of};
-ghost use Rattle.worm_region.specs.declared.step.Moved.TheVariants.{Done};
+ghost use Rattle.worm_region.specs.Answers.{AsksSource, accepted_of, moved_of};
+ghost use Rattle.worm_region.specs.declared.step.Moved.TheVariants.{Done, Idle};
 ghost use Rattle.worm_region.specs.NewNet.{IsConfig, IsFresh};
 ghost use Rattle.worm_region.specs.State.{IsNet, shape, router_at, texts_of, with_router};
 ghost use Rattle.worm_region.specs.Owned.{sole};
@@ -65,7 +65,8 @@ fn moved(done: bool) -> Moved
 /// What a source answered to a packet or a mark, as the answer to a step: `NoMemory` where it had none, and for each
 /// other reason `Refused` with it.
 fn accepted(answer: Result<u16, OfferFault>) -> Result<Moved, StepFault>
-    ensures { result ≡ accepted_of answer }
+    ensures value { result ≡ accepted_of answer }
+    ensures never_idle { result ≡ Ok Idle → ⊥ }
 {
     match answer {
         Ok(_number) => Ok(Moved::Done),
@@ -252,7 +253,8 @@ impl Region {
 
     /// An Offer: the node's source is asked to accept the packet.
     pub(crate) fn offer(&mut self, node: u8, packet: &Packet) -> Result<Moved, StepFault>
-        ensures { Replies self.old (Event.Offer node packet.now.lane packet.now.words) result self.new }
+        ensures replies { Replies self.old (Event.Offer node packet.now.lane packet.now.words) result self.new }
+        ensures never_idle { result ≡ Ok Idle → ⊥ }
     {
         if !self.fabric.has_node(node) {
             return Err(StepFault::NoSuchPlace);
@@ -264,7 +266,8 @@ impl Region {
 
     /// A Close: the node's source is asked to accept the lane's mark.
     pub(crate) fn close(&mut self, node: u8, lane: Lane) -> Result<Moved, StepFault>
-        ensures { Replies self.old (Event.CloseLane node lane) result self.new }
+        ensures replies { Replies self.old (Event.CloseLane node lane) result self.new }
+        ensures never_idle { result ≡ Ok Idle → ⊥ }
     {
         if !self.fabric.has_node(node) {
             return Err(StepFault::NoSuchPlace);
@@ -429,7 +432,8 @@ impl Region {
     /// changed.
     pub fn step(&mut self, step: &Step) -> Result<Moved, StepFault>
         requires { self.old.own ≡ sole }
-        ensures { Replies self.old (event_of step.now) result self.new }
+        ensures replies { Replies self.old (event_of step.now) result self.new }
+        ensures asked { AsksSource (event_of step.now) → result ≡ Ok Idle → ⊥ }
     {
         match step {
             Step::Offer { node, packet } => self.offer(*node, packet),

@@ -1,7 +1,6 @@
 pub mod NothingTwice
 pub mod Legs
 pub mod Onward
-pub mod Nearest
 pub mod Track
 pub mod PlacesByNode
 pub mod DigitCrossing

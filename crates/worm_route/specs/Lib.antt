@@ -3,4 +3,3 @@ pub mod Distinct
 pub mod Places
 pub mod LaneMachine
 pub mod Crossing
-pub mod Addresses

@@ -18,9 +18,6 @@ ghost use Rattle.worm_route.specs.Crossing.{Follows, crosses, steps_down, steps_
 ghost use Rattle.worm_route.specs.Places.{ArePlaces, places_of};
 ghost use Rattle.worm_route.specs.Route.{LeadsOn, hops_of, port_of, route_of, walk};
 
-mod addresses;
-
-pub use addresses::{AddressRoom, Addresses};
 use worm_mesh::Mesh;
 
 /// The port by which the route to `dst` leaves `here`: `2d` is the minus side of dimension `d`, `2d + 1` its plus side.
@@ -100,7 +97,7 @@ pub fn crosses(mesh: &Mesh, node: u8, port: u8, src: u8, dst: u8) -> bool
 
 // The lowest digit of an address in this radix, and what is left above it. A division takes longest of all that a
 // route costs, and most radices are powers of two: for these a mask and a shift do.
-pub(crate) fn split(address: u8, radix: u8) -> (u8, u8)
+fn split(address: u8, radix: u8) -> (u8, u8)
     requires { 0 < radix }
     ensures digit { result.0 ≡ address % radix }
     ensures above { result.1 ≡ address / radix }

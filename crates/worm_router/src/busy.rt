@@ -62,6 +62,7 @@ impl BusyChannels {
         requires classes { AreChannels classes.now }
         requires channel { vc < sum classes.now }
         ensures gone { IsWithout self.old.full self.new.full (owner_of classes.now vc) fed }
+        ensures kept { fed ≡ false → self.new.full ≡ self.old.full }
         ensures others { self.new ≡ record self.old { full = self.new.full } }
     {
         // Mostly none is known to be full.

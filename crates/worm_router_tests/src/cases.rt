@@ -6,7 +6,6 @@ ghost use Rattle.worm_mesh.specs.Address.{AreRadices};
 use std::fmt::Debug;
 use std::process::Abort;
 use worm_mesh::Mesh;
-use worm_route::{AddressRoom, Addresses};
 
 /// The mesh with these radices.
 pub fn mesh_of(rt: &impl Abort, radices: &[u8]) -> Mesh
@@ -14,14 +13,6 @@ pub fn mesh_of(rt: &impl Abort, radices: &[u8]) -> Mesh
     ensures mesh { AreRadices result }
 {
     Mesh::new(radices).expect(rt, "a mesh")
-}
-
-/// The addresses of the mesh's nodes.
-pub fn addresses_of<R: Abort + AllocGlobal>(rt: &R, mesh: Mesh) -> Addresses
-    ensures { result ≡ mesh }
-{
-    let room = AddressRoom::new(rt.alloc()).expect(rt, "memory for addresses");
-    Addresses::new(mesh, room)
 }
 
 /// What was printed reads so.

@@ -2,22 +2,20 @@
 
 ghost use Rattle.std.specs.Prelude.{◌<◌};
 
-use crate::cases::{addresses_of, mesh_of};
+use crate::cases::mesh_of;
 use crate::mesh::is_opposite;
 use std::process::Abort;
 use worm_mesh::Mesh;
 use worm_route::{crosses, hops, next_port};
 
-/// The port by which the route leaves the node, by the mesh and by the addresses of its nodes.
-fn port_from<R: Abort + AllocGlobal>(rt: &R, mesh: &Mesh, here: u8, dst: u8) -> u8 {
+/// The port by which the route leaves the node.
+fn port_from(rt: &impl Abort, mesh: &Mesh, here: u8, dst: u8) -> u8 {
     assert!(rt; u16::from(here) < mesh.nodes() && u16::from(dst) < mesh.nodes());
-    let port = next_port(mesh, here, dst);
-    assert_eq!(rt; addresses_of(rt, *mesh).port(here, dst), port);
-    port
+    next_port(mesh, here, dst)
 }
 
 /// The nodes that leaving each node by its next port passes, up to the terminal.
-fn walked<R: Abort + AllocGlobal>(rt: &R, mesh: &Mesh, src: u8, dst: u8) -> [u8; 8] {
+fn walked(rt: &impl Abort, mesh: &Mesh, src: u8, dst: u8) -> [u8; 8] {
     let mut nodes = [255; 8];
     let mut here = src;
     for place in 0..8 {

@@ -8,7 +8,6 @@ use crate::LinkState;
 use std::alloc::{AllocError, Global};
 use std::marker::Model;
 use worm_flit::{Flit, Kind, Lane, SmallSet};
-use worm_route::AddressRoom;
 
 /// A flit that stands where none is.
 const NO_FLIT: Flit = Flit {
@@ -167,14 +166,12 @@ impl NodeFronts {
     }
 }
 
-/// Memory for the inboxes of 256 nodes and for their addresses, whatever stands in it. It goes with the lists of a
-/// network, so that links are made of those without taking any.
+/// Memory for the inboxes of 256 nodes, whatever stands in it. It goes with the lists of a network, so that links are
+/// made of those without taking any.
 #[derive(Drop)]
 pub struct Inboxes {
     /// By node number.
     pub(crate) list: Vec<NodeFronts>,
-    /// Memory for the addresses of the nodes.
-    pub(crate) addresses: AddressRoom,
 }
 
 impl Model for Inboxes {
@@ -192,7 +189,6 @@ impl Inboxes {
     pub fn new(alloc: Global) -> Result<Inboxes, AllocError> {
         Ok(Inboxes {
             list: vec![in alloc; NodeFronts::new(); 256]?,
-            addresses: AddressRoom::new(alloc)?,
         })
     }
 }

@@ -11,7 +11,7 @@ use std::mem::swap;
 use worm_flit::Flit;
 
 /// What is on a link from one node to the next: its flits, and the credits on their way back over it, front first
-/// (Dally and Towles, chapter 13). There is room for at least `room` of each without growing.
+/// (Dally and Towles, chapter 13).
 ///
 /// ```text
 /// let mut link = LinkState::new(alloc, 2)?;
@@ -21,33 +21,23 @@ use worm_flit::Flit;
 #[derive(Drop)]
 pub struct LinkState {
     /// The flits, in the order in which they were sent, on whatever channels.
-    flits: VecDeque<Flit>,
+    pub flits: VecDeque<Flit>,
     /// The channels whose credits are on their way back.
-    credits: VecDeque<u8>,
-    /// How many of each fit without growing; in a network at least the number of channels times the depth.
-    room: u16,
+    pub credits: VecDeque<u8>,
 }
 
 impl Model for LinkState {
-    ghost use Rattle.std.specs.Prelude.{◌≤◌};
+    ghost use Rattle.std.specs.Prelude.{min};
     ghost use Rattle.std.specs.VecDeque.{deque_capacity};
     ghost use Rattle.worm_wires.specs.Links.{LinkView};
 
     ghost Value = { LinkView };
 
-    ghost view = { λ l. record { flits = l.flits.items; credits = l.credits.items; room = l.room } };
-
-    ghost invariant = { λ l. (l.room ≤ deque_capacity l.flits) × (l.room ≤ deque_capacity l.credits) };
-}
-
-/// Makes both the smaller of the two.
-fn keep_least(a: &mut u16, b: &mut u16)
-    ensures this { a.new ≡ min a.old b.old }
-    ensures that { b.new ≡ min a.old b.old }
-{
-    let least = (*a).min(*b);
-    *a = least;
-    *b = least;
+    ghost view = { λ l. record {
+      flits = l.flits.items;
+      credits = l.credits.items;
+      room = min (deque_capacity l.flits) (deque_capacity l.credits);
+    } };
 }
 
 impl LinkState {
@@ -55,20 +45,16 @@ impl LinkState {
     pub fn new(alloc: Global, room: u16) -> Result<LinkState, AllocError>
         ensures { IfOk result (λ l. l ≡ empty_link room) }
     {
-        let flits = VecDeque::from_vec(Vec::with_capacity(alloc, usize::from(room))?);
-        let credits = VecDeque::from_vec(Vec::with_capacity(alloc, usize::from(room))?);
-        Ok(LinkState {
-            flits,
-            credits,
-            room,
-        })
+        let flits = VecDeque::with_capacity(alloc, usize::from(room))?;
+        let credits = VecDeque::with_capacity(alloc, usize::from(room))?;
+        Ok(LinkState { flits, credits })
     }
 
-    /// The room: how many flits, and how many credits, fit without growing.
-    pub fn room(&self) -> u16
+    /// How many flits, and how many credits, fit without growing.
+    pub fn room(&self) -> usize
         ensures { result ≡ self.now.room }
     {
-        self.room
+        self.flits.capacity().min(self.credits.capacity())
     }
 
     /// The front flit, if there is one: where it lies, since what takes it asks first whether there is room for it.
@@ -138,30 +124,23 @@ impl LinkState {
         self.credits.push_back_reserved(vc);
     }
 
-    /// Exchanges the flits on the two links, and neither keeps more room than both had.
+    /// Exchanges the flits on the two links, each with its room.
     pub fn swap_flits(&mut self, other: &mut LinkState)
-        ensures this { self.new ≡ record self.old { flits = other.old.flits; room = min self.old.room other.old.room } }
-        ensures that { other.new ≡ record other.old {
-          flits = self.old.flits;
-          room = min self.old.room other.old.room;
-        } }
+        ensures this { self.new ≡ record self.old { flits = other.old.flits; room = self.new.room } }
+        ensures that { other.new ≡ record other.old { flits = self.old.flits; room = other.new.room } }
+        ensures room { min self.old.room other.old.room ≤ self.new.room }
+        ensures other_room { min self.old.room other.old.room ≤ other.new.room }
     {
-        keep_least(&mut self.room, &mut other.room);
         swap(&mut self.flits, &mut other.flits);
     }
 
-    /// Exchanges the credits on their way back over the two links, and neither keeps more room than both had.
+    /// Exchanges the credits on their way back over the two links, each with its room.
     pub fn swap_credits(&mut self, other: &mut LinkState)
-        ensures this { self.new ≡ record self.old {
-          credits = other.old.credits;
-          room = min self.old.room other.old.room;
-        } }
-        ensures that { other.new ≡ record other.old {
-          credits = self.old.credits;
-          room = min self.old.room other.old.room;
-        } }
+        ensures this { self.new ≡ record self.old { credits = other.old.credits; room = self.new.room } }
+        ensures that { other.new ≡ record other.old { credits = self.old.credits; room = other.new.room } }
+        ensures room { min self.old.room other.old.room ≤ self.new.room }
+        ensures other_room { min self.old.room other.old.room ≤ other.new.room }
     {
-        keep_least(&mut self.room, &mut other.room);
         swap(&mut self.credits, &mut other.credits);
     }
 }

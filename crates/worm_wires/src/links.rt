@@ -154,11 +154,8 @@ impl Links {
         requires states { length states.items ≡ link_count mesh }
         ensures { result ≡ record { mesh = mesh; states = states.items } }
     {
-        let Inboxes {
-            list: mut fronts,
-            addresses,
-        } = inboxes;
-        let wiring = Wiring::new(mesh, addresses);
+        let Inboxes { list: mut fronts } = inboxes;
+        let wiring = Wiring::new(mesh);
         let mut arrivals = [Arrivals::new(); 256];
         for node in 0..256u16 {
             let at = usize::from(node);
@@ -195,10 +192,7 @@ impl Links {
         for node in 0..256u16 {
             spill_node(&wiring, &arrivals, &mut lists, &mut fronts, node as u8);
         }
-        let inboxes = Inboxes {
-            list: fronts,
-            addresses: wiring.into_room(),
-        };
+        let inboxes = Inboxes { list: fronts };
         (lists, inboxes)
     }
 

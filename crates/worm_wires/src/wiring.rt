@@ -8,7 +8,6 @@ ghost use Rattle.worm_wires.specs.Wiring.{port_links};
 
 use std::marker::Model;
 use worm_mesh::Mesh;
-use worm_route::{AddressRoom, Addresses};
 
 /// The links of a mesh port that has a neighbour: the node beyond, and the numbers of the two links between.
 #[derive(Clone, Copy)]
@@ -36,8 +35,7 @@ pub struct NodeLinks {
 /// A mesh and the links of each of its nodes. It is small, since networks and parts are moved about by value.
 #[derive(Drop)]
 pub struct Wiring {
-    /// The mesh, with the addresses of its nodes.
-    addresses: Addresses,
+    mesh: Mesh,
     /// How many nodes it has.
     count: u16,
     /// The terminal port of each node.
@@ -55,9 +53,9 @@ impl Model for Wiring {
 
     ghost use Rattle.worm_wires.specs.Wiring.{IsWired};
 
-    ghost view = { λ w. w.addresses };
+    ghost view = { λ w. w.mesh };
 
-    ghost invariant = { λ w. IsWired w.addresses w.count w.terminal w.steps w.nodes };
+    ghost invariant = { λ w. IsWired w.mesh w.count w.terminal w.steps w.nodes };
 }
 
 /// The number that is kept of the link out of this port.
@@ -110,8 +108,8 @@ fn steps(mesh: &Mesh) -> [u8; 6]
 }
 
 impl Wiring {
-    /// The mesh with its links' numbers, and the addresses of its nodes in this memory.
-    pub fn new(mesh: Mesh, room: AddressRoom) -> Wiring
+    /// The mesh with its links' numbers.
+    pub fn new(mesh: Mesh) -> Wiring
         requires { AreRadices mesh }
         ensures { result ≡ mesh }
     {
@@ -123,7 +121,7 @@ impl Wiring {
         let terminal = 2 * mesh.dims();
         let steps = steps(&mesh);
         Wiring {
-            addresses: Addresses::new(mesh, room),
+            mesh,
             count,
             terminal,
             steps,
@@ -131,30 +129,11 @@ impl Wiring {
         }
     }
 
-    /// The memory that the addresses are in.
-    pub(crate) fn into_room(self) -> AddressRoom {
-        let Wiring {
-            addresses,
-            count: _,
-            terminal: _,
-            steps: _,
-            nodes: _,
-        } = self;
-        addresses.into_room()
-    }
-
     /// The mesh.
     pub fn mesh(&self) -> &Mesh
         ensures { result.now ≡ self.now }
     {
-        self.addresses.mesh()
-    }
-
-    /// The addresses of the nodes.
-    pub fn addresses(&self) -> &Addresses
-        ensures { result.now ≡ self.now }
-    {
-        &self.addresses
+        &self.mesh
     }
 
     /// How many nodes there are, 2 to 256.
@@ -180,7 +159,7 @@ impl Wiring {
         ensures mesh { AreRadices self.now }
     {
         // For the proof: a mesh has radices within their limits.
-        let _nodes = self.addresses.mesh().nodes();
+        let _nodes = self.mesh.nodes();
         self.nodes[usize::from(node)].outs[usize::from(port)]
     }
 
@@ -190,7 +169,7 @@ impl Wiring {
         ensures { Some result ≡ neighbour_of self.now node port }
     {
         // For the proof: a mesh has radices within their limits.
-        let _nodes = self.addresses.mesh().nodes();
+        let _nodes = self.mesh.nodes();
         node.wrapping_add(self.steps[usize::from(port)])
     }
 
@@ -201,9 +180,9 @@ impl Wiring {
         ensures mesh_port { result < 6 }
     {
         // For the proof: a mesh has radices within their limits.
-        let _nodes = self.addresses.mesh().nodes();
+        let _nodes = self.mesh.nodes();
         let _there = self.beyond(node, port);
-        self.addresses.mesh().opposite(port)
+        self.mesh.opposite(port)
     }
 
     /// The links of a port that has a neighbour, where this is the number of the one out of it.
@@ -213,7 +192,7 @@ impl Wiring {
         ensures { Some result ≡ port_links self.now node port }
     {
         // For the proof: a mesh has radices within their limits.
-        let _nodes = self.addresses.mesh().nodes();
+        let _nodes = self.mesh.nodes();
         let beyond = self.beyond(node, port);
         let entered = self.entered(node, port);
         let into = self.kept(beyond, entered);
@@ -239,7 +218,7 @@ impl Wiring {
         ensures mesh_ports { IfSome result (λ links. (port < 6) × (links.entered < 6)) }
     {
         // For the proof: a mesh has radices within their limits.
-        let _nodes = self.addresses.mesh().nodes();
+        let _nodes = self.mesh.nodes();
         if port >= 6 {
             return None;
         }
@@ -265,7 +244,7 @@ impl Wiring {
         ensures mesh_port { port < 6 }
     {
         // For the proof: a mesh has radices within their limits.
-        let _nodes = self.addresses.mesh().nodes();
+        let _nodes = self.mesh.nodes();
         let out = self.kept(node, port);
         self.links_by(node, port, out)
     }

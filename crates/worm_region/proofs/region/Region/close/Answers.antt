@@ -11,9 +11,9 @@ use Rattle.worm_region.proofs.ReachedBySteps.{replies_from, still_workable}
 use Rattle.worm_region.proofs.region.Region.close.Goals as goal
 use Rattle.worm_region.proofs.region.Region.close.Goals.{After-close}
 
-pub returns-then-not-has_node : goal.returns-then-not-has_node
+pub returns-then-not-has_node-clause-replies : goal.returns-then-not-has_node-clause-replies
 unfolding net_shape
-returns-then-not-has_node c = (
+returns-then-not-has_node-clause-replies c = (
   subst (λ (s : NetState). IsThere (shape s) (CloseLane c.args.node c.args.lane) →
       ⊥) c.self.view_is
       (λ there. let found = c.has_node.ensures.1 there in let missing = c.if-not-has_node.true in absurd (cc)),
@@ -37,8 +37,8 @@ pub invariant_of-self : goal.invariant_of-self
 invariant_of-self c = (made (goal.at.invariant_of-self c).After-close
     (c.has_node.ensures.0 c.if-not-has_node.false)).0
 
-pub returns : goal.returns
-returns c =
-    let a = (made (goal.at.returns c).After-close (c.has_node.ensures.0 c.if-not-has_node.false)).1 in
-    rw c.accepted.ensures (replies_from _ _ _ (CloseLane c.args.node c.args.lane)
+pub returns-clause-replies : goal.returns-clause-replies
+returns-clause-replies c =
+    let a = (made (goal.at.returns-clause-replies c).After-close (c.has_node.ensures.0 c.if-not-has_node.false)).1 in
+    rw c.accepted.ensures.value (replies_from _ _ _ (CloseLane c.args.node c.args.lane)
     (accepted_of c.close.result) c.self.view_is a)

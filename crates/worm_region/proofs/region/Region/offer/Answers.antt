@@ -11,9 +11,9 @@ use Rattle.worm_region.proofs.ReachedBySteps.{replies_from, still_workable}
 use Rattle.worm_region.proofs.region.Region.offer.Goals as goal
 use Rattle.worm_region.proofs.region.Region.offer.Goals.{After-offer}
 
-pub returns-then-not-has_node : goal.returns-then-not-has_node
+pub returns-then-not-has_node-clause-replies : goal.returns-then-not-has_node-clause-replies
 unfolding net_shape
-returns-then-not-has_node c = (
+returns-then-not-has_node-clause-replies c = (
   subst (λ (s : NetState). IsThere (shape s) (Offer c.args.node c.args.packet.now.lane c.args.packet.now.words) →
       ⊥) c.self.view_is
       (λ there. let found = c.has_node.ensures.1 there in let missing = c.if-not-has_node.true in absurd (cc)),
@@ -38,8 +38,8 @@ pub invariant_of-self : goal.invariant_of-self
 invariant_of-self c = (made (goal.at.invariant_of-self c).After-offer
     (c.has_node.ensures.0 c.if-not-has_node.false)).0
 
-pub returns : goal.returns
-returns c =
-    let a = (made (goal.at.returns c).After-offer (c.has_node.ensures.0 c.if-not-has_node.false)).1 in
-    rw c.accepted.ensures (replies_from _ _ _ (Offer c.args.node c.args.packet.now.lane c.args.packet.now.words)
+pub returns-clause-replies : goal.returns-clause-replies
+returns-clause-replies c =
+    let a = (made (goal.at.returns-clause-replies c).After-offer (c.has_node.ensures.0 c.if-not-has_node.false)).1 in
+    rw c.accepted.ensures.value (replies_from _ _ _ (Offer c.args.node c.args.packet.now.lane c.args.packet.now.words)
     (accepted_of c.offer.result) c.self.view_is a)
