@@ -1,4 +1,4 @@
-ghost use Rattle.std.specs.Prelude.{◌≡◌, ◌<◌, None, replicate, sum};
+ghost use Rattle.std.specs.Prelude.{◌≡◌, ◌<◌, None, false, replicate, sum};
 ghost use Rattle.worm_flit.specs.Channels.{AreChannels, owner_of};
 ghost use Rattle.worm_router.specs.Busy.{AreReady, IsWithout};
 
