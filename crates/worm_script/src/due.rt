@@ -57,7 +57,8 @@ impl<'a> Due<'a> {
         ensures { (d : OfEntry) → (slice_index_or self.now i d).act ≡ result.now }
     {
         let entries = self.entries;
-        &entries[i].act
+        let entry = &entries[i];
+        &entry.act
     }
 
     /// The node whose source the entry at this place asks.

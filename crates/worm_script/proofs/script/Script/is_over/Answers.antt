@@ -1,4 +1,4 @@
-use Rattle.std.proofs.Common.{◌≡◌, Bool, true, false, List, arith, refl}
+use Rattle.std.proofs.Common.{◌≡◌, Bool, true, false, arith, refl}
 use Rattle.std.specs.Prelude.{IsTrue}
 use Rattle.worm_script.specs.Script.{AreInOrder}
 use Rattle.worm_script.proofs.DueEntries.{less, none_behind}
