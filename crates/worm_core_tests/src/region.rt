@@ -7,7 +7,7 @@ use crate::cases::{are_equal, config, packet, to_offer};
 use std::alloc::Global;
 use std::process::Abort;
 use worm_cases::lane;
-use worm_flit::{Lane, Packet};
+use worm_flit::Lane;
 use worm_region::{Act, Config, Due, Entry, NetFault, Region, Script, ScriptFault};
 
 /// The script of an entry in each of these turns: a word for the node of the turn's number.
@@ -26,9 +26,12 @@ fn is_past(rt: &impl Abort, script: &mut Script, turn: u8) {
     assert_eq!(rt; script.push(late), Err(ScriptFault::TurnFalls));
 }
 
-/// The script has so many entries.
-fn has_entries(rt: &impl Abort, script: &Script, count: usize) {
-    are_equal(rt, script.len(), count);
+/// The script's entries are of these turns, in order.
+fn has_turns(rt: &impl Abort, script: &Script, turns: &[u8]) {
+    are_equal(rt, script.len(), turns.len());
+    for (entry, turn) in script.entries().iter().zip(turns) {
+        assert_eq!(rt; entry.turn, u32::from(*turn));
+    }
 }
 
 /// The turn has so many entries.
@@ -40,7 +43,7 @@ fn has_due(rt: &impl Abort, script: &Script, turn: u64, count: usize) {
 fn begins_with(rt: &impl Abort, script: &Script, turn: u64, lane: Lane) {
     let due = script.due(turn);
     assert!(rt; !due.is_empty());
-    assert_eq!(rt; due.lane(0), lane);
+    assert_eq!(rt; due.act(0).lane(), lane);
     assert_eq!(rt; due.first_of(lane.src), Some(0));
 }
 
@@ -69,7 +72,7 @@ fn asks_at(rt: &impl Abort, due: &Due<'_>, node: u8, places: &[usize]) {
 fn the_entries_of_a_turn(rt: HostRuntime) {
     let mut script = script_of_turns(&rt, rt.alloc(), &[0, 2, 2, 5]);
     is_past(&rt, &mut script, 4);
-    has_entries(&rt, &script, 4);
+    has_turns(&rt, &script, &[0, 2, 2, 5]);
     has_due(&rt, &script, 0, 1);
     has_due(&rt, &script, 1, 0);
     has_due(&rt, &script, 2, 2);
@@ -108,17 +111,19 @@ fn goes_on_with(rt: &impl Abort, script: &mut Script, turn: u32, act: Act) {
     script.push(Entry { turn, act }).expect(rt, "an entry more");
 }
 
-/// The same by its parts: it offers a packet of these words, or where there is none closes the lane.
-fn goes_on_by(rt: &impl Abort, script: &mut Script, turn: u32, lane: Lane, words: &[u32]) {
-    assert!(rt; words.len() <= 32);
-    script.add(turn, lane, words).expect(rt, "an entry more");
+/// It is asked to accept a packet of these words.
+fn offers(rt: &impl Abort, act: &Act, words: &[u32]) {
+    match act {
+        Act::Offer(packet) => assert!(rt; packet.words() == words),
+        Act::Close(_) => assert!(rt; false, "no packet"),
+    }
 }
 
-/// The packet has these words.
-fn carries(rt: &impl Abort, packet: Option<Packet>, words: &[u32]) {
-    match packet {
-        Some(packet) => assert!(rt; packet.words() == words),
-        None => assert!(rt; false, "no packet"),
+/// It is asked to close this lane.
+fn closes(rt: &impl Abort, act: &Act, lane: Lane) {
+    match act {
+        Act::Offer(_) => assert!(rt; false, "a packet"),
+        Act::Close(closed) => assert_eq!(rt; *closed, lane),
     }
 }
 
@@ -128,17 +133,14 @@ fn what_the_entries_of_a_turn_ask(rt: HostRuntime) {
     let (first, second) = (lane(0, 5, 0), lane(1, 5, 0));
     goes_on_with(&rt, &mut script, 3, Act::Offer(packet(&rt, first, &[7, 8])));
     goes_on_with(&rt, &mut script, 3, Act::Close(second));
-    script.make_room(2, 1).expect(&rt, "memory ahead");
-    goes_on_by(&rt, &mut script, 3, first, &[9]);
-    goes_on_by(&rt, &mut script, 3, first, &[]);
+    script.make_room(1).expect(&rt, "memory ahead");
+    goes_on_with(&rt, &mut script, 3, Act::Offer(packet(&rt, first, &[9])));
     let due = script.due(3);
-    assert_eq!(&rt; due.len(), 4);
-    carries(&rt, due.packet(0), &[7, 8]);
-    assert!(&rt; due.packet(1).is_none());
-    carries(&rt, due.packet(2), &[9]);
-    assert!(&rt; due.packet(3).is_none());
-    assert_eq!(&rt; due.lane(0), first);
-    assert_eq!(&rt; due.lane(1), second);
+    assert_eq!(&rt; due.len(), 3);
+    offers(&rt, due.act(0), &[7, 8]);
+    closes(&rt, due.act(1), second);
+    offers(&rt, due.act(2), &[9]);
+    assert_eq!(&rt; due.act(0).lane(), first);
 }
 
 /// A number of the configuration is out of its range.

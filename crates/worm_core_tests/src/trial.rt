@@ -117,9 +117,10 @@ impl<R: Abort + AllocGlobal + Copy> Trial<R> {
 
     /// The script's entry at this place is of this lane, and brings so many flits.
     pub fn brings(&self, i: usize, lane: Lane, flits: u8) {
-        assert!(self.rt; i < self.script.len());
-        are_equal(&self.rt, self.script.lane(i), lane);
-        are_equal(&self.rt, self.script.flits(i), flits);
+        let entries = self.script.entries();
+        assert!(self.rt; i < entries.len());
+        are_equal(&self.rt, entries[i].act.lane(), lane);
+        are_equal(&self.rt, entries[i].act.flits(), flits);
     }
 
     /// Memory is taken ahead for what the script brings.

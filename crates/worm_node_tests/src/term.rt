@@ -8,12 +8,19 @@ use worm_cases::{lane, single};
 use worm_flit::{Flit, Kind, Lane, Packet, are_channels};
 use worm_term::{OfferFault, Sink, Source};
 
+/// The source of the node with lanes to so many nodes, and so many channels for each class.
+fn source_to(rt: &impl Abort, alloc: Global, node: u8, nodes: u16, channels: &[u8]) -> Source
+    ensures { result.channels ≡ channels.now }
+{
+    assert!(rt; are_channels(channels));
+    Source::new(alloc, node, nodes, channels).expect(rt, "a source")
+}
+
 /// The source of the node, one of two, with so many channels for each class.
 fn source_of(rt: &impl Abort, alloc: Global, node: u8, channels: &[u8]) -> Source
     ensures { result.channels ≡ channels.now }
 {
-    assert!(rt; node < 2 && are_channels(channels));
-    Source::new(alloc, node, 2, channels).expect(rt, "a source")
+    source_to(rt, alloc, node, 2, channels)
 }
 
 /// A packet of these words on the lane.
@@ -99,6 +106,25 @@ fn accepts(rt: &impl Abort, source: &mut Source, packet: &Packet, number: u16)
         Ok(given) => assert_eq!(rt; given, number),
         Err(fault) => panic!(rt; "{fault:?}"),
     }
+}
+
+/// Any node has a source with lanes to any number of nodes, whether it is one of them or not.
+#[test]
+fn sources_of_any_node(rt: HostRuntime) {
+    let mut past = source_to(&rt, rt.alloc(), 7, 2, &[1]);
+    refuses(&rt, &mut past, lane(0, 1, 0), OfferFault::WrongSource);
+    accepts(&rt, &mut past, &packet_of(&rt, lane(7, 1, 0), &[7]), 0);
+    accepts(&rt, &mut past, &packet_of(&rt, lane(7, 1, 0), &[7]), 1);
+    refuses(&rt, &mut past, lane(7, 2, 0), OfferFault::NoSuchNode);
+    let mut alone = source_to(&rt, rt.alloc(), 0, 0, &[1]);
+    refuses(&rt, &mut alone, lane(0, 0, 0), OfferFault::NoSuchNode);
+    let mut widest = source_to(&rt, rt.alloc(), 255, 65_535, &[1, 1, 1, 1]);
+    accepts(
+        &rt,
+        &mut widest,
+        &packet_of(&rt, lane(255, 255, 3), &[7]),
+        0,
+    );
 }
 
 /// The class's next flit has this word, and would be fed on this channel.

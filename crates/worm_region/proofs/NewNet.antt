@@ -67,9 +67,9 @@ link_fresh (suc n) zero room = (refl, refl)
 link_fresh (suc n) (suc k) room = link_fresh n k room
 
 -- a fresh node is that of its number
-pub fresh_is : (mesh channels : List ℕ) (depth : ℕ) → AreRadices mesh → (x : ℕ) → x < node_count mesh
+pub fresh_is : (mesh channels : List ℕ) (depth x : ℕ)
     → IsNodeOf mesh channels depth x (fresh_node mesh channels depth x)
-fresh_is mesh channels depth radices x x_in = record {
+fresh_is mesh channels depth x = record {
   same_mesh = refl;
   same_node = refl;
   same_channels = refl;
@@ -81,7 +81,7 @@ fresh_is mesh channels depth radices x x_in = record {
   source_node = refl;
   source_nodes = refl;
   source_channels = refl;
-  source_holds = fresh_sound x (node_count mesh) channels (length channels) _ _ x_in radices.few_nodes refl refl refl;
+  source_holds = fresh_sound x (node_count mesh) channels (length channels) _ _ refl refl refl;
   fed_within =
       λ k. subst (λ (q : QueueState). q.fed ≤ length q.injected) (sym (queue_fresh x (node_count mesh) channels k))
       (omega arith);
@@ -168,7 +168,7 @@ module _ (mesh channels : List ℕ) (depth : ℕ) (names : List (List ℕ)) (nod
       all_links = rw no_links (length-replicate (link_count mesh) (empty_link (sum channels * depth)));
       each_node =
           λ x within. subst (λ (n : Node). IsNodeOf mesh channels depth x n) (sym (all x))
-          (fresh_is mesh channels depth radices x (omega arith));
+          (fresh_is mesh channels depth x);
       rooms = λ k within.
           let count : length links ≡ link_count mesh =
           rw no_links (length-replicate (link_count mesh) (empty_link (sum channels * depth))) in

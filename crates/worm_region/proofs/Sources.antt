@@ -42,8 +42,6 @@ injected_kept t k there j = elim (number_cases j k) [
 
 pub fed_source : (t : SourceState) (k : ℕ) → IsSource t → k < length t.queues → IsSource (after_fed t k)
 fed_source t k sound there = record {
-  node_in = sound.node_in;
-  few_nodes = sound.few_nodes;
   all_queues = rw length-set sound.all_queues;
   all_lanes = sound.all_lanes;
   in_order = λ dst class dst_in class_in.

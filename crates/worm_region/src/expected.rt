@@ -9,9 +9,9 @@ pub(crate) fn expected_of(script: &Script) -> [Expected; 256] {
         from: [0; 4],
         to: 0,
     }; 256];
-    for i in 0..script.len() {
-        let lane = script.lane(i);
-        let flits = u32::from(script.flits(i));
+    for entry in script.entries() {
+        let lane = entry.act.lane();
+        let flits = u32::from(entry.act.flits());
         let from = &mut nodes[usize::from(lane.src)].from;
         // A script may name a class that no network has.
         if let Some(sum) = from.get_mut(usize::from(lane.class)) {

@@ -2,13 +2,12 @@
 
 ghost use Rattle.std.specs.Prelude.{ℕ, List, [], ◌≡◌, ◌<◌, ◌*◌, Option, None, Some, IsTrue, true, false, length, sum};
 ghost use Rattle.std.specs.Result.{result_err};
-ghost use Rattle.std.specs.Prelude.{IsSome, slice_index_or};
+ghost use Rattle.std.specs.Prelude.{IsSome};
 ghost use Rattle.worm_mesh.specs.Address.{neighbour_of, node_count};
 ghost use Rattle.worm_region.specs.Replies.{Attempts, Replies};
 ghost use Rattle.worm_script.specs.Script.{begun_at};
 ghost use Rattle.worm_region.specs.Owned.{sole};
 ghost use Rattle.worm_region.specs.Workable.{IsWorkable};
-ghost use Rattle.worm_script.specs.declared.entry.Entry.{Entry};
 ghost use Rattle.worm_router.specs.Router.{input_at, width};
 ghost use Rattle.worm_swalloc.specs.SwAlloc.{AreGranted};
 ghost use Rattle.worm_swalloc.specs.declared.grant.SwGrant.{SwGrant};
@@ -22,7 +21,7 @@ ghost use Rattle.worm_region.specs.Turns.{TakesFlitsBy, AreGrants, AreMarked, Ar
 ghost use Rattle.worm_region.specs.Prepared.{Prepares};
 
 use crate::region::Region;
-use crate::{Due, Moved, StepFault};
+use crate::{Act, Due, Moved, StepFault};
 use worm_vcalloc::ChannelSet;
 
 /// What the answer to a step is to the turn that tried it: a step that is not there, or not enabled, is passed over.
@@ -52,13 +51,12 @@ fn sources_of(entries: &Due<'_>) -> [bool; 256]
 
 impl Region {
     /// Asks the node's source what an entry asks of it.
-    fn ask(&mut self, node: u8, entries: &Due<'_>, i: usize) -> Result<Moved, StepFault>
-        requires { i < length entries.now }
-        ensures { (d : Entry) → Replies self.old (ask node (slice_index_or entries.now i d).act) result self.new }
+    fn ask(&mut self, node: u8, act: &Act) -> Result<Moved, StepFault>
+        ensures { Replies self.old (ask node act.now) result self.new }
     {
-        match entries.packet(i) {
-            Some(packet) => self.offer(node, &packet),
-            None => self.close(node, entries.lane(i)),
+        match act {
+            Act::Offer(packet) => self.offer(node, packet),
+            Act::Close(lane) => self.close(node, *lane),
         }
     }
 
@@ -71,7 +69,7 @@ impl Region {
     {
         let mut next = entries.first_of(node);
         while let Some(i) = next {
-            tried(self.ask(node, entries, i))?;
+            tried(self.ask(node, entries.act(i)))?;
             next = entries.next_of(i);
         }
         Ok(())

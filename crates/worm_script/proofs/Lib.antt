@@ -1,5 +1,4 @@
 pub mod DueEntries
-pub mod EntriesKept
 pub mod NextOfSource
 pub mod GapsOfPart
 pub mod GapsLinked

@@ -5,7 +5,9 @@ use Rattle.std.proofs.Math.ListN.{replicate}
 use Rattle.std.proofs.Math.Seq.{get_or-append_seam}
 use Rattle.std.proofs.lemmas.Bool.{cases_lt}
 use Rattle.std.proofs.lemmas.List.{get_or-replicate, get_or_append_left, length-map, map-append}
+use Rattle.std.proofs.lemmas.List.Elements.{All-push}
 use Rattle.worm_script.specs.Script.{last_turn, lane_of, sources_of, turns_of, AreInOrder, AreLasts, IsScript}
+use Rattle.worm_script.specs.Script.{HasWords, HaveWords}
 use Rattle.worm_script.specs.declared.entry.Entry.{Entry}
 use Rattle.worm_script.proofs.GapsLinked.{IsLinked, gaps_linked, inner_linked, lasts_linked, linked_at_end}
 use Rattle.worm_script.proofs.NextOfSource.{as_many}
@@ -16,6 +18,7 @@ no_last x x_in = get_or-replicate 256 x 0 0 x_in
 none_is_script : IsScript [] [] (replicate 256 0)
 none_is_script = record {
   in_order = λ i below. absurd (omega arith);
+  words = λ k d below. absurd (omega arith);
   nexts = record {
     all = refl;
     last = λ i below none. absurd (omega arith);
@@ -65,13 +68,13 @@ in_order_more entries e in_order last i below =
 -- an entry of no earlier turn at the end, to which the last one of its source, if any, is made to lead
 pub one_more_is : (entries : List Entry) (gaps lasts : List ℕ) (e : Entry) (after : List Entry) (linked : List ℕ)
     (x count : ℕ) → IsScript entries gaps lasts → length lasts ≡ 256
-    → (0 < length entries → last_turn entries ≤ e.turn) → x ≡ (lane_of e.act).src → x < 256
+    → (0 < length entries → last_turn entries ≤ e.turn) → HasWords e.act → x ≡ (lane_of e.act).src → x < 256
     → after ≡ entries ++ e ∷ [] → count ≡ length after
     → (get_or lasts x 0 ≡ 0 → linked ≡ gaps ++ 0 ∷ [])
     → (0 < get_or lasts x 0
     → linked ≡ set (gaps ++ 0 ∷ []) (get_or lasts x 0 - 1) (length (gaps ++ 0 ∷ []) - get_or lasts x 0))
     → IsScript after linked (set lasts x count)
-one_more_is entries gaps lasts e after linked x count script many turn is x_in pushed counted none some =
+one_more_is entries gaps lasts e after linked x count script many turn has is x_in pushed counted none some =
     let sources = sources_of entries in
     let source_of : Entry → ℕ = λ (e : Entry). (lane_of e.act).src in
     let all = as_many entries in
@@ -88,6 +91,7 @@ one_more_is entries gaps lasts e after linked x count script many turn is x_in p
     let number : length sources + 1 ≡ count = omega arith in
     record {
       in_order = subst AreInOrder (sym pushed) (in_order_more entries e script.in_order turn);
+      words = subst HaveWords (sym pushed) (All-push (λ (e : Entry). HasWords e.act) entries e script.words has);
       nexts = gaps_linked sources gaps lasts (sources_of after) linked x x_in script.nexts inner script.last link;
       inner = λ i below.
           let within = inner_linked sources gaps lasts (sources_of after) linked x x_in script.nexts inner script.last

@@ -1,9 +1,7 @@
 -- The order of a script's entries, and those of a turn and of a node.
 use Rattle.std.specs.Prelude.{ℕ, ◌≡◌, ◌≢◌, ◌≤◌, ◌+◌, ◌-◌, ◌<◌, ◌==◌, List, [], ◌∷◌}
 use Rattle.std.specs.Prelude.{All, Option, None, Some, length, drop, filter, map, slice_index, slice_index_or}
-use Rattle.std.specs.Prelude.{if◌then◌else◌}
 use Rattle.worm_flit.specs.declared.Lane.{Lane}
-use Rattle.worm_flit.specs.Packets.{PacketState}
 use Rattle.worm_script.specs.declared.entry.Act.{Act}
 use Rattle.worm_script.specs.declared.entry.Act.TheVariants.{Offer, Close}
 use Rattle.worm_script.specs.declared.entry.Entry.{Entry}
@@ -25,19 +23,6 @@ AreInOrder entries = (i : ℕ) → i + 1 < length entries
 abbrev pub lane_of : Act → Lane
 lane_of (Offer packet) = packet.lane
 lane_of (Close lane) = lane
-
--- what is asked of a lane's source: to accept a packet of these words, or where there is none to close the lane
-abbrev pub asking : Lane → List ℕ → Act
-asking lane words = if length words == 0 then Close lane else Offer (record { lane = lane; words = words })
-
--- the entry that asks it in a turn
-abbrev pub entry_with : ℕ → Lane → List ℕ → Entry
-entry_with turn lane words = record { turn = turn; act = asking lane words }
-
--- the packet that is offered, if one is
-abbrev pub packet_in : Act → Option PacketState
-packet_in (Offer packet) = Some packet
-packet_in (Close lane) = None
 
 -- how many flits it brings: one for each word of its packet, or the mark alone
 abbrev pub flit_count : Act → ℕ
@@ -91,9 +76,10 @@ pub record AreLasts (sources lasts : List ℕ) : Type 0 where
   pub asks : (x : ℕ) → x < 256 → 0 < slice_index lasts x → slice_index sources (slice_index lasts x - 1) ≡ x
   pub none_behind : (x k : ℕ) → x < 256 → slice_index lasts x ≤ k → k < length sources → slice_index sources k ≢ x
 
--- entries in order, and from each where the next one stands that asks the same source
+-- entries in order, whose packets have words, and from each where the next one stands that asks the same source
 pub record IsScript (entries : List Entry) (gaps lasts : List ℕ) : Type 0 where
   pub in_order : AreInOrder entries
+  pub words : HaveWords entries
   pub nexts : AreGaps (sources_of entries) gaps
   pub inner : (i : ℕ) → i < length entries → i + slice_index gaps i < length entries
   pub last : AreLasts (sources_of entries) lasts

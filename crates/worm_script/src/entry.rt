@@ -1,7 +1,7 @@
 //! A line of traffic: what a source is asked, and when.
 
 ghost use Rattle.std.specs.Prelude.{◌≡◌};
-ghost use Rattle.worm_script.specs.Script.{lane_of};
+ghost use Rattle.worm_script.specs.Script.{HasWords, flit_count, lane_of};
 
 use worm_flit::{Lane, Packet};
 
@@ -22,6 +22,25 @@ impl Act {
         match self {
             Act::Offer(packet) => packet.lane(),
             Act::Close(lane) => *lane,
+        }
+    }
+
+    /// How many flits it brings: one for each word of its packet, or the mark alone.
+    pub fn flits(&self) -> u8
+        ensures { result ≡ flit_count self.now }
+    {
+        match self {
+            Act::Offer(packet) => packet.words().len() as u8,
+            Act::Close(_) => 1,
+        }
+    }
+
+    /// What holds of a packet, for contracts: it has words, and not too many.
+    pub(crate) fn recall(&self)
+        ensures { HasWords self.now }
+    {
+        if let Act::Offer(packet) = self {
+            let _words = packet.words();
         }
     }
 }

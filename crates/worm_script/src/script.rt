@@ -1,14 +1,11 @@
 ghost use Rattle.std.specs.Prelude.{◌≡◌, ◌<◌, ◌≤◌, ◌-◌, ◌↔◌, ◌++◌, ◌∷◌, [], IsTrue, OnOk, OnErr, length};
-ghost use Rattle.std.specs.Prelude.{slice_index_or, slice_range, slice_set};
-ghost use Rattle.worm_script.specs.Script.{AreInOrder, due, entry_with, flit_count, lane_of, last_turn};
-ghost use Rattle.worm_script.specs.declared.entry.Entry.{Entry as OfEntry};
+ghost use Rattle.std.specs.Prelude.{slice_range, slice_set};
+ghost use Rattle.worm_script.specs.Script.{AreInOrder, due, last_turn};
 
 use crate::due::Due;
-use crate::entry::{Act, Entry};
-use crate::lines::Lines;
+use crate::entry::Entry;
 use std::alloc::{AllocError, Global};
 use std::marker::Model;
-use worm_flit::Lane;
 
 /// Why an entry was not added.
 #[derive(Clone, Copy, Debug, PartialEq, Eq)]
@@ -22,7 +19,7 @@ pub enum ScriptFault {
 /// Entries in the order of the text, whose turns never fall; turn by turn each source is asked its own in this order.
 #[derive(Debug, Drop)]
 pub struct Script {
-    entries: Lines,
+    entries: Vec<Entry>,
     /// From each entry, how many places on the next one stands that asks the same source: 0 where none does.
     gaps: Vec<usize>,
     /// By node, how many entries there are up to the last one that asks its source: 0 where none does.
@@ -36,9 +33,21 @@ impl Model for Script {
 
     ghost Value = { List Entry };
 
-    ghost view = { λ s. s.entries };
+    ghost view = { λ s. s.entries.items };
 
-    ghost invariant = { λ s. IsScript s.entries s.gaps.items s.lasts };
+    ghost invariant = { λ s. IsScript s.entries.items s.gaps.items s.lasts };
+}
+
+/// Where the entries of a turn begin, and where those of later turns.
+fn places(entries: &[Entry], turn: u64) -> (usize, usize)
+    requires { AreInOrder entries.now }
+    ensures rise { result.0 ≤ result.1 }
+    ensures within { result.1 ≤ length entries.now }
+    ensures part { slice_range entries.now result.0 result.1 ≡ due turn entries.now }
+{
+    let first = entries.partition_point(|entry| u64::from(entry.turn) < turn);
+    let next = entries.partition_point(|entry| u64::from(entry.turn) <= turn);
+    (first, next)
 }
 
 /// Leads from the last entry of a source, if it has one, to the entry at the end.
@@ -59,9 +68,19 @@ impl Script {
         ensures { result ≡ [] }
     {
         Script {
-            entries: Lines::new(alloc),
+            entries: Vec::new(alloc),
             gaps: Vec::new(alloc),
             lasts: [0; 256],
+        }
+    }
+
+    /// The last entry's turn, or 0 where there is none.
+    fn last_turn(&self) -> u32
+        ensures { result ≡ last_turn self.now }
+    {
+        match self.entries.last() {
+            None => 0,
+            Some(entry) => entry.turn,
         }
     }
 
@@ -72,28 +91,15 @@ impl Script {
         ensures falls { (result ≡ Err ScriptFault.TurnFalls) ↔ (entry.turn < last_turn self.old) }
         ensures err { OnErr result (self.new ≡ self.old) }
     {
-        match &entry.act {
-            Act::Offer(packet) => self.add(entry.turn, packet.lane(), packet.words()),
-            Act::Close(lane) => self.add(entry.turn, *lane, &[]),
-        }
-    }
-
-    /// The same of an entry by its parts: it offers a packet of these words, at most 32, or where there is none closes
-    /// the lane.
-    pub fn add(&mut self, turn: u32, lane: Lane, words: &[u32]) -> Result<(), ScriptFault>
-        requires few { length words.now ≤ 32 }
-        ensures ok { OnOk result (self.new ≡ self.old ++ entry_with turn lane words.now ∷ []) }
-        ensures falls { (result ≡ Err ScriptFault.TurnFalls) ↔ (turn < last_turn self.old) }
-        ensures err { OnErr result (self.new ≡ self.old) }
-    {
-        if turn < self.entries.last_turn() {
+        if entry.turn < self.last_turn() {
             return Err(ScriptFault::TurnFalls);
         }
         if self.gaps.reserve(1).is_err() {
             return Err(ScriptFault::NoMemory);
         }
-        let source = usize::from(lane.src);
-        if self.entries.add(turn, lane, words).is_err() {
+        entry.act.recall();
+        let source = usize::from(entry.act.lane().src);
+        if self.entries.push(entry).is_err() {
             return Err(ScriptFault::NoMemory);
         }
         let _ = self.gaps.push(0);
@@ -102,13 +108,19 @@ impl Script {
         Ok(())
     }
 
-    /// Takes memory ahead for so many entries more, with so many words together. `Err` where it is refused. Nothing
-    /// that is seen changes.
-    pub fn make_room(&mut self, entries: usize, words: usize) -> Result<(), AllocError>
+    /// Takes memory ahead for so many entries more. `Err` where it is refused. Nothing that is seen changes.
+    pub fn make_room(&mut self, entries: usize) -> Result<(), AllocError>
         ensures { self.new ≡ self.old }
     {
         self.gaps.reserve(entries)?;
-        self.entries.make_room(entries, words)
+        self.entries.reserve(entries)
+    }
+
+    /// The entries, in order.
+    pub fn entries(&self) -> &[Entry]
+        ensures { result.now ≡ self.now }
+    {
+        self.entries.as_slice()
     }
 
     /// How many entries there are.
@@ -125,35 +137,11 @@ impl Script {
         let _entries = &self.entries;
     }
 
-    /// The entry at this place.
-    pub fn entry(&self, i: usize) -> Entry
-        requires { i < length self.now }
-        ensures { (d : OfEntry) → slice_index_or self.now i d ≡ result }
-    {
-        self.entries.entry(i)
-    }
-
-    /// The lane of which the entry at this place speaks.
-    pub fn lane(&self, i: usize) -> Lane
-        requires { i < length self.now }
-        ensures { (d : OfEntry) → lane_of (slice_index_or self.now i d).act ≡ result }
-    {
-        self.entries.lane(i)
-    }
-
-    /// How many flits the entry at this place brings: one for each word of its packet, or the mark alone.
-    pub fn flits(&self, i: usize) -> u8
-        requires { i < length self.now }
-        ensures { (d : OfEntry) → flit_count (slice_index_or self.now i d).act ≡ result }
-    {
-        self.entries.flits(i)
-    }
-
     /// Whether all entries are of turns before this one, so that it has none.
     fn is_over(&self, turn: u64) -> bool
         ensures { IsTrue result → due turn self.now ≡ [] }
     {
-        self.entries.len() == 0 || u64::from(self.entries.last_turn()) < turn
+        self.entries.is_empty() || u64::from(self.last_turn()) < turn
     }
 
     /// The entries between two places, each with where the next stands.
@@ -162,7 +150,7 @@ impl Script {
         requires within { next ≤ length self.now }
         ensures { result ≡ slice_range self.now first next }
     {
-        Due::new(&self.entries, first, &self.gaps[first..next])
+        Due::new(&self.entries[first..next], &self.gaps[first..next])
     }
 
     /// The entries of a turn, in order.
@@ -172,7 +160,7 @@ impl Script {
         if self.is_over(turn) {
             return self.between(0, 0);
         }
-        let (first, next) = self.entries.places(turn);
+        let (first, next) = places(&self.entries, turn);
         self.between(first, next)
     }
 }

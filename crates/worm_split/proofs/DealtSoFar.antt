@@ -206,7 +206,7 @@ seat_lists {O} {lines = lines} {kept = kept} {seats = seats} rest seat net so_fa
           (framed_with O seat.nodes.items seat.links.items net.framed (is.all_nodes ∙ sym net.framed.all_nodes)
           (long ∙ sym net.framed.all_links)
           (λ x there. subst (λ (n : Node). IsNodeOf O.mesh O.channels O.depth x n) (sym (is.nodes x))
-          (fresh_is O.mesh O.channels O.depth net.framed.radices x (omega arith)))
+          (fresh_is O.mesh O.channels O.depth x))
           (λ k there.
           let at = ap (λ (l : List LinkView). (slice_index_or l k blank_link).room) is.links
           ∙ ap (λ (l : LinkView). l.room) (get_or-replicate (link_count O.mesh) k (empty_link room) blank_link

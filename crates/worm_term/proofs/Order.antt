@@ -187,8 +187,6 @@ pub offered_sound : (s : SourceState) (lane : Lane) (fs : List Flit) (is_last : 
     → IsPackets lane (next_number s lane + 1) is_last (xs ++ fs))
     → IsSource (with_packet s lane fs is_last)
 offered_sound s lane fs is_last sound is_open own more = record {
-  node_in = sound.node_in;
-  few_nodes = sound.few_nodes;
   all_queues = rw length-set sound.all_queues;
   all_lanes = rw length-set sound.all_lanes;
   in_order =
@@ -225,12 +223,9 @@ close_sound s lane sound is_open =
     (λ xs before. closed (next_number s lane) xs before)
 
 pub fresh_sound : (node nodes : ℕ) (channels : List ℕ) (classes : ℕ) (queues : List QueueState) (lanes : List LaneState)
-    → node < nodes → nodes ≤ 256 → classes ≡ length channels
-    → queues ≡ replicate classes empty_queue → lanes ≡ replicate (nodes * classes) fresh_lane
+    → classes ≡ length channels → queues ≡ replicate classes empty_queue → lanes ≡ replicate (nodes * classes) fresh_lane
     → IsSource (source_state node nodes channels queues lanes)
-fresh_sound node nodes channels classes queues lanes node_in few is_count all_empty all_fresh = record {
-  node_in = node_in;
-  few_nodes = few;
+fresh_sound node nodes channels classes queues lanes is_count all_empty all_fresh = record {
   all_queues = rw all_empty (rw length-replicate is_count);
   all_lanes = rw all_fresh (rw length-replicate (ap (λ n. nodes * n) is_count));
   in_order = λ dst class dst_in class_in.

@@ -120,8 +120,6 @@ pub record IsFrom (node nodes class : ℕ) (f : Flit) : Type 0 where
 
 -- what holds of each source
 pub record IsSource (s : SourceState) : Type 0 where
-  pub node_in : s.node < s.nodes
-  pub few_nodes : s.nodes ≤ 256
   pub all_queues : length s.queues ≡ classes s
   pub all_lanes : length s.lanes ≡ s.nodes * classes s
   pub in_order : InOrder s.node s.nodes (classes s) s.queues s.lanes

@@ -28,7 +28,7 @@ pub struct LaneState {
 pub struct Source {
     /// The node where its lanes begin.
     node: u8,
-    /// The number of nodes, 1 to 256.
+    /// How many nodes there are to send to.
     nodes: u16,
     /// The channels that classes own.
     classes: ClassChannels,
@@ -86,12 +86,10 @@ fn make_lanes(alloc: Global, count: usize) -> Result<Vec<LaneState>, AllocError>
 }
 
 impl Source {
-    /// The source of a node, one of so many, which has accepted nothing. `NoMemory` where there is none for its
-    /// lists.
+    /// The source of a node, with lanes to so many nodes, which has accepted nothing. `NoMemory` where there is none
+    /// for its lists.
     pub fn new(alloc: Global, node: u8, nodes: u16, channels: &[u8]) -> Result<Source, NoMemory>
-        requires node { node < nodes }
-        requires nodes { nodes ≤ 256 }
-        requires channels { AreChannels channels.now }
+        requires { AreChannels channels.now }
         ensures { IfOk result (λ s. s ≡ fresh_source node nodes channels.now) }
     {
         let classes = ClassChannels::new(channels);

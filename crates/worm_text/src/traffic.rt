@@ -11,7 +11,7 @@ ghost use Rattle.worm_text.specs.Reading.{Reads, Gives};
 ghost use Rattle.worm_text.specs.Network.{view, nodes_of, names_of, Keeps};
 ghost use Rattle.worm_text.specs.declared.format.Format.{Format};
 ghost use Rattle.worm_text.specs.Traffic.{Said, class_at, turn_at, lane_at, words_at, send_at, close_at, entry_at};
-ghost use Rattle.worm_text.specs.Traffic.{same_lane, lane_cmp, closes, read_entries};
+ghost use Rattle.worm_text.specs.Traffic.{entry_view, same_lane, lane_cmp, closes, read_entries};
 ghost use Rattle.worm_text.specs.Asked.{said_by};
 ghost use Rattle.worm_text.specs.Traffic.{traffic_of};
 ghost use Rattle.worm_text.specs.TrafficFaults.{AnswersOrFull, RanOut, IsEntryLine, IsEntryPiece, IsTrafficFaultLine};
@@ -22,8 +22,8 @@ use crate::fields::{Fields, cut_first};
 use arrayvec::ArrayVec;
 use std::alloc::{AllocError, Global};
 use std::collections::BTreeSet;
-use worm_core::{Config, Name, Script};
-use worm_flit::Lane;
+use worm_core::{Act, Config, Entry, Name, Script};
+use worm_flit::{Lane, Packet};
 
 /// The most entries that a text may have.
 const MOST_ENTRIES: usize = 10_000;
@@ -104,16 +104,15 @@ impl ClosedLanes {
         Ok(())
     }
 
-    /// The lane of an entry without words is closed from then on.
-    fn note(&mut self, asked: Asked, words: &[u32]) -> Result<(), AllocError>
+    /// The lane that an entry closes is closed from then on.
+    fn note(&mut self, entry: &Entry) -> Result<(), AllocError>
         ensures noted { OnOk result ((other : Lane)
             → contains lane_cmp self.new.lanes other
-            ≡ (closes other (said_by asked words.now) || contains lane_cmp self.old.lanes other)) }
+            ≡ (closes other (entry_view entry.now) || contains lane_cmp self.old.lanes other)) }
     {
-        if words.is_empty() {
-            self.add(asked.lane)
-        } else {
-            Ok(())
+        match &entry.act {
+            Act::Offer(_) => Ok(()),
+            Act::Close(lane) => self.add(*lane),
         }
     }
 }
@@ -132,14 +131,31 @@ fn class(classes: &[Name], fields: &mut Fields<'_>) -> Result<u8, Why>
     }
 }
 
-/// What an entry line asks for, but for the words of its packet: they stand beside it, so that they are copied once, to
-/// where they are kept. Where there is none the lane is to be closed.
+/// What an entry line asks for, but for the words of its packet: they stand beside it, so that the packet is made once,
+/// where it is kept. Where there is none the lane is to be closed.
 #[derive(Clone, Copy)]
 struct Asked {
     /// The turn in which it is asked.
     turn: u32,
     /// The lane of which it speaks.
     lane: Lane,
+}
+
+impl Asked {
+    /// The entry with these words.
+    fn entry(self, words: &[u32]) -> Entry
+        requires { length words.now ≤ 32 }
+        ensures { entry_view result ≡ said_by self words.now }
+    {
+        let act = match Packet::new(self.lane, words) {
+            Ok(packet) => Act::Offer(packet),
+            Err(_) => Act::Close(self.lane),
+        };
+        Entry {
+            turn: self.turn,
+            act,
+        }
+    }
 }
 
 /// What a reader knows in front of a line.
@@ -261,9 +277,7 @@ fn script_for(alloc: Global, rest: &[u8]) -> Script
 {
     let mut script = Script::empty(alloc);
     let entries = (rest.len() / LEAST_LINE).min(MOST_ENTRIES);
-    // Each word takes two bytes at least, and an entry has at most 32.
-    let words = (rest.len() / 2).min(32 * MOST_ENTRIES);
-    let _ = script.make_room(entries, words);
+    let _ = script.make_room(entries);
     script
 }
 
@@ -307,11 +321,9 @@ fn read_entries(
                 };
             }
             Ok(Some(asked)) => {
-                last = asked.turn;
-                let words = words.as_slice();
-                if closed.note(asked, words).is_err()
-                    || script.add(asked.turn, asked.lane, words).is_err()
-                {
+                let entry = asked.entry(words.as_slice());
+                last = entry.turn;
+                if closed.note(&entry).is_err() || script.push(entry).is_err() {
                     let why = Why::NoMemory;
                     return Err(TextFault { line, why });
                 }

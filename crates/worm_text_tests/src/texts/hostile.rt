@@ -99,8 +99,8 @@ fn entry_line(alloc: Global, entry: &Entry) -> Result<String, Fail> {
 /// The lines of all entries.
 fn entry_lines(alloc: Global, script: &Script) -> Result<String, Fail> {
     let mut text = String::new(alloc);
-    for i in 0..script.len() {
-        text.push_str(entry_line(alloc, &script.entry(i))?.as_str())?;
+    for entry in script.entries() {
+        text.push_str(entry_line(alloc, entry)?.as_str())?;
     }
     Ok(text)
 }

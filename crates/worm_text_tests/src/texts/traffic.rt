@@ -5,7 +5,7 @@ use std::alloc::Global;
 use std::process::Abort;
 use std::test::Fail;
 use worm_cases::{TWO_NODES, TWO_WORDS};
-use worm_core::{Act, Entry, Script};
+use worm_core::{Act, Entry};
 use worm_flit::Lane;
 use worm_text::{TextFault, Why};
 
@@ -71,17 +71,21 @@ fn lane(src: u8, dst: u8) -> Lane {
 }
 
 /// The entries are a packet of two words, and a close.
-fn are_kept(rt: &impl Abort, script: &Script) {
-    assert_eq!(rt; script.len(), 2);
-    offers(rt, &script.entry(0), 0, lane(0, 1), &[17, 4294967295]);
-    closes(rt, &script.entry(1), 3, lane(1, 0));
+fn are_kept(rt: &impl Abort, entries: &[Entry]) {
+    match entries {
+        [first, second] => {
+            offers(rt, first, 0, lane(0, 1), &[17, 4294967295]);
+            closes(rt, second, 3, lane(1, 0));
+        }
+        _ => assert!(rt; false, "not two entries"),
+    }
 }
 
 #[test]
 fn entries_are_kept(rt: HostRuntime) -> Result<(), Fail> {
     let text = b"wormtraffic 1\nsend 0 0 1 data 17 4294967295\nclose 3 1 0 data\nend\n";
     let script = traffic(rt.alloc(), TWO_NODES, text)??;
-    are_kept(&rt, &script);
+    are_kept(&rt, script.entries());
     Ok(())
 }
 

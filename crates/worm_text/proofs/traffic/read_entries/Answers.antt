@@ -8,9 +8,7 @@ use Rattle.worm_flit.specs.declared.Lane.{Lane}
 use Rattle.worm_text.specs.Lines.{cut, space, newline}
 use Rattle.worm_text.specs.Network.{view}
 use Rattle.worm_text.specs.Traffic.{Said, read_entries, entry_view, lane_cmp, closes}
-use Rattle.worm_script.specs.Script.{entry_with}
 use Rattle.worm_text.specs.Asked.{said_by}
-use Rattle.worm_text.proofs.Asked.{as_entry}
 use Rattle.worm_text.proofs.Entries.{same_call, stops, ends_well, ends_ill, goes_on, last-push, closed-push, room}
 use Rattle.worm_text.proofs.Entries.{on_ok}
 use Rattle.worm_text.proofs.TrafficPieces.{read_one, last_read}
@@ -66,17 +64,13 @@ loop-front-preserved c =
     omega (arith, length-map es entry_view, c.len.ensures) in
     let call = same_call n (map entry_view es) c.len.result c.loop-front.last
     (contains lane_cmp c.loop-front.closed.lanes) (cut space c.in-Some.front.now) len i.last i.closed in
-    let asked = c.in-Ok-Some.asked in
-    let words = c.as_slice-words.result.now in
-    let e = entry_with asked.turn asked.lane words in
-    let made : entry_view e ≡ said_by asked words = as_entry asked words in
-    let told = rw c.in-Ok-Some.field-0-is at c.in-Ok-Some.ensures
-    ∙ ap (λ (s : Said). Ok (Some s))
-    (sym (made ∙ ap (λ (ws : List ℕ). said_by asked ws) c.as_slice-words.ensures.value)) in
+    let e = c.entry-entry.result in
+    let made = c.entry-entry.ensures ∙ ap (λ (ws : List ℕ). said_by c.in-Ok-Some.asked ws) c.as_slice.ensures.value in
+    let told = rw c.in-Ok-Some.field-0-is at c.in-Ok-Some.ensures ∙ ap (λ (s : Said). Ok (Some s)) (sym made) in
     let j = sym call ∙ told in
-    let items : c.add.new.self ≡ es ++ e ∷ [] =
-    on_ok c.add.result c.is_err-else-is_err.result
-    (c.add.new.self ≡ es ++ e ∷ []) c.add.ensures.ok c.is_err-else-is_err.ensures.negation
+    let items : c.push.new.self ≡ es ++ e ∷ [] =
+    on_ok c.push.result c.is_err-else-is_err.result
+    (c.push.new.self ≡ es ++ e ∷ []) c.push.ensures.ok c.is_err-else-is_err.ensures.negation
     c.if-is_err-2.false in
     let g = goes_on n es e c.loop-front.line c.loop-front.rest.now c.in-Some.front.now c.in-Some.after.now
     (read_entries n [] 2 (cut newline c.args.rest.now)) c.in-Some.ensures.parts i.read j in
@@ -84,14 +78,13 @@ loop-front-preserved c =
     (cut space c.in-Some.front.now) (entry_view e) told in
     let noted = on_ok c.note.result c.is_err.result ((other : Lane)
     → contains lane_cmp c.note.new.self.lanes other
-    ≡ (closes other (said_by asked words) || contains lane_cmp c.loop-front.closed.lanes other)) c.note.ensures.noted
+    ≡ (closes other (entry_view e) || contains lane_cmp c.loop-front.closed.lanes other)) c.note.ensures.noted
     c.is_err.ensures.negation c.if-is_err.false in
     record {
       read = rw items g;
       last = rw items (last-push es e);
-      closed = λ lane. let was = contains lane_cmp c.loop-front.closed.lanes lane in
-          rw items (closed-push es e lane was (contains lane_cmp c.note.new.self.lanes lane) (i.closed lane)
-          (noted lane ∙ ap (λ (s : Said). closes lane s || was) (sym made)));
+      closed = λ lane. rw items (closed-push es e lane (contains lane_cmp c.loop-front.closed.lanes lane)
+          (contains lane_cmp c.note.new.self.lanes lane) (i.closed lane) (noted lane));
       count = rw items (omega (arith, length_push es e, i.count));
       few = rw items (omega (arith, length_push es e, len, length-map es entry_view, r));
       read_so_far = rw items (read_one n es e
@@ -109,13 +102,9 @@ returns-then-is_err c =
     let call = same_call n (map entry_view es) c.len.result c.loop-front.last
     (contains lane_cmp c.loop-front.closed.lanes) (cut space c.in-Some.front.now) len i.last i.closed in
     let pieces = cut newline c.args.rest.now in
-    let asked = c.in-Ok-Some.asked in
-    let words = c.as_slice-words.result.now in
-    let e = entry_with asked.turn asked.lane words in
-    let made : entry_view e ≡ said_by asked words = as_entry asked words in
-    let told = rw c.in-Ok-Some.field-0-is at c.in-Ok-Some.ensures
-    ∙ ap (λ (s : Said). Ok (Some s))
-    (sym (made ∙ ap (λ (ws : List ℕ). said_by asked ws) c.as_slice-words.ensures.value)) in
+    let e = c.entry-entry.result in
+    let made = c.entry-entry.ensures ∙ ap (λ (ws : List ℕ). said_by c.in-Ok-Some.asked ws) c.as_slice.ensures.value in
+    let told = rw c.in-Ok-Some.field-0-is at c.in-Ok-Some.ensures ∙ ap (λ (s : Said). Ok (Some s)) (sym made) in
     let one = read_one n es e pieces c.loop-front.rest.now c.in-Some.front.now c.in-Some.after.now
     (omega (arith, c.requires.counted, c.requires.few)) c.in-Some.ensures.parts i.read_so_far (sym call ∙ told) in
     inl (refl, last_read n es e pieces c.in-Some.after.now c.loop-front.line one i.count)

@@ -10,7 +10,7 @@ pub returns-then-gap-gaps : goal.returns-then-gap-gaps
 returns-then-gap-gaps c =
     let entries = c.args.self.now in
     let gaps : AreGaps (sources_of entries) c.self.inside.gaps.now =
-    subst (λ (es : List Entry). AreGaps (sources_of es) c.self.inside.gaps.now) c.self.view_is c.self.invariant.2 in
+    subst (λ (es : List Entry). AreGaps (sources_of es) c.self.inside.gaps.now) c.self.view_is c.self.invariant.0 in
     let place = c.args.i + get_or c.self.inside.gaps.now c.args.i 0 in
     let many = as_many entries in
     let all = gaps.all in
@@ -22,7 +22,7 @@ pub returns-else-gap-ne0 : goal.returns-else-gap-ne0
 returns-else-gap-ne0 c =
     let entries = c.args.self.now in
     let gaps : AreGaps (sources_of entries) c.self.inside.gaps.now =
-    subst (λ (es : List Entry). AreGaps (sources_of es) c.self.inside.gaps.now) c.self.view_is c.self.invariant.2 in
+    subst (λ (es : List Entry). AreGaps (sources_of es) c.self.inside.gaps.now) c.self.view_is c.self.invariant.0 in
     let gap = get_or c.self.inside.gaps.now c.args.i 0 in
     let many = as_many entries in
     let all = gaps.all in

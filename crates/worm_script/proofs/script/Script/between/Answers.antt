@@ -1,6 +1,6 @@
-use Rattle.std.proofs.Common.{◌≡◌, ◌+◌, ◌-◌, ◌≤◌, ℕ, arith, length, subst, sym, take}
-use Rattle.std.proofs.Common.{drop, ap, length-take, length-drop}
-use Rattle.worm_script.specs.Script.{sources_of, AreGaps}
+use Rattle.std.proofs.Common.{◌≡◌, ◌-◌, ◌≤◌, ◌∙◌, List, ap, arith, drop, length, subst, sym}
+use Rattle.std.proofs.lemmas.List.Elements.{All-drop, All-take}
+use Rattle.worm_script.specs.Script.{sources_of, AreGaps, HasWords, HaveWords}
 use Rattle.worm_script.specs.declared.entry.Entry.{Entry}
 use Rattle.worm_script.proofs.GapsOfPart.{gaps_between}
 use Rattle.worm_script.proofs.NextOfSource.{as_many}
@@ -8,18 +8,19 @@ use Rattle.worm_script.proofs.script.Script.between.Goals as goal
 
 pub new-requires-clause-gaps : goal.new-requires-clause-gaps
 new-requires-clause-gaps c =
-    let entries = c.self.inside.entries in
-    let all = c.deref.result.now in
-    let first = c.args.first in
-    let next = c.args.next in
+    let entries = c.deref.result.now in
+    let same : entries ≡ c.args.self.now = c.deref.ensures.value ∙ c.self.view_is in
     let many = as_many entries in
-    let long = ap (length {A = Entry}) c.self.view_is in
-    let within : next ≤ length (sources_of entries) = omega (arith, c.requires.within) in
-    let gaps : AreGaps (sources_of entries) all =
-    subst (AreGaps (sources_of entries)) (sym c.deref.ensures.value) c.self.invariant.nexts in
-    let have = gaps.all in
-    let part = take (next - first) (drop first all) in
-    let count : first + length part - first ≡ next - first =
-    omega (arith, length-take (next - first) (drop first all), length-drop first all, c.requires.rise) in
-    subst (λ (n : ℕ). AreGaps (sources_of (take n (drop first entries))) part) (sym count)
-    (gaps_between entries all first next c.requires.rise within gaps)
+    let long : length entries ≡ length c.args.self.now = ap (length {A = Entry}) same in
+    let within : c.args.next ≤ length (sources_of entries) = omega (arith, c.requires.within) in
+    let gaps : AreGaps (sources_of entries) c.deref-2.result.now =
+    subst (λ (es : List Entry). AreGaps (sources_of es) c.deref-2.result.now) (sym c.deref.ensures.value)
+    (subst (AreGaps (sources_of c.self.inside.entries.items)) (sym c.deref-2.ensures.value) c.self.invariant.nexts) in
+    gaps_between entries c.deref-2.result.now c.args.first c.args.next c.requires.rise within gaps
+
+pub new-requires-clause-words : goal.new-requires-clause-words
+new-requires-clause-words c =
+    let entries = c.deref.result.now in
+    let has = λ (e : Entry). HasWords e.act in
+    All-take has (c.args.next - c.args.first) (drop c.args.first entries)
+    (All-drop has c.args.first entries (subst HaveWords (sym c.deref.ensures.value) c.self.invariant.words))
