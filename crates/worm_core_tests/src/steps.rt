@@ -55,3 +55,7 @@ pub fn send(node: u8, port: u8, vc: u8) -> Step {
 pub fn take(node: u8, port: u8) -> Step {
     Step::Take { node, port }
 }
+
+pub fn give(node: u8, port: u8, vc: u8) -> Step {
+    Step::GiveCredit { node, port, vc }
+}

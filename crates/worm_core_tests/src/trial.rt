@@ -10,8 +10,8 @@ use crate::cases::{are_equal, config, to_offer};
 use std::alloc::Global;
 use std::process::Abort;
 use worm_core::{
-    Act, Config, Entry, LaneView, Moved, Net, NetFault, NetParts, Place, RunSoFar, Script,
-    ScriptFault, Step, StepFault, Totals,
+    Act, Config, Entry, LaneView, LinkState, Moved, Net, NetFault, NetParts, Place, RunSoFar,
+    Script, ScriptFault, Step, StepFault, Totals,
 };
 use worm_flit::Lane;
 
@@ -59,7 +59,10 @@ fn have_counts(rt: &impl Abort, parts: &NetParts, shape: &Shape) {
 
 /// Whether each link has room for so many flits.
 fn have_room(parts: &NetParts, room: u16) -> bool {
-    parts.links.iter().all(|link| link.room() == room)
+    parts
+        .links
+        .iter()
+        .all(|link| link.room() == usize::from(room))
 }
 
 /// A network and the script of its turns.
@@ -292,6 +295,21 @@ impl<R: Abort + AllocGlobal + Copy> Trial<R> {
     /// So many classes have names.
     pub fn has_names(&self, count: usize) {
         are_equal(&self.rt, self.net.config().classes.len(), count);
+    }
+
+    /// The same, once the network was taken apart, with so many flits and so many credits in the two lists of the link
+    /// of this number, and put together again.
+    pub fn through_lists(self, number: usize, flits: usize, credits: usize) -> Trial<R> {
+        let Trial { rt, net, script } = self;
+        let parts = net.into_parts();
+        assert!(rt; number < parts.links.len());
+        let LinkState {
+            flits: sent,
+            credits: given,
+        } = &parts.links[number];
+        are_equal(&rt, (sent.len(), given.len()), (flits, credits));
+        let net = Net::from_parts(parts);
+        Trial { rt, net, script }
     }
 
     /// The same, once the network was taken apart into parts of this shape and put together again.

@@ -52,11 +52,11 @@ fn link_with(
 ) -> LinkState {
     let mut link = LinkState::new(alloc, room).expect(rt, "memory");
     for word in words {
-        assert!(rt; link.count() < usize::from(link.room()));
+        assert!(rt; link.count() < link.room());
         link.push(single(0, *word));
     }
     for vc in credits {
-        assert!(rt; link.credit_count() < usize::from(link.room()));
+        assert!(rt; link.credit_count() < link.room());
         link.push_credit(*vc);
     }
     link
@@ -172,7 +172,7 @@ impl<R: Abort + AllocGlobal + Copy> Pair<R> {
         let mesh = *links.wiring().mesh();
         let (states, inboxes) = links.into_states();
         assert!(rt; states.len() == usize::from(mesh.links()));
-        assert!(rt; states[number].count() < usize::from(states[number].room()));
+        assert!(rt; states[number].count() < states[number].room());
         let mut links = Links::new(mesh, states, inboxes);
         links.push(node, port, flit);
         Pair { rt, links }

@@ -24,7 +24,7 @@ fn put_behind(link: &mut LinkState, flit: Flit)
         link.new ≡ record link.old { flits = link.old.flits ++ flit ∷ [] } }
     ensures full { link.old.room ≤ length link.old.flits → link.new ≡ link.old }
 {
-    if link.count() < usize::from(link.room()) {
+    if link.count() < link.room() {
         link.push(flit);
     }
 }
@@ -35,7 +35,7 @@ fn put_credit_behind(link: &mut LinkState, vc: u8)
         link.new ≡ record link.old { credits = link.old.credits ++ vc ∷ [] } }
     ensures full { link.old.room ≤ length link.old.credits → link.new ≡ link.old }
 {
-    if link.credit_count() < usize::from(link.room()) {
+    if link.credit_count() < link.room() {
         link.push_credit(vc);
     }
 }

@@ -59,6 +59,20 @@ fn a_worm_stands_from_link_to_source(rt: HostRuntime) {
     assert!(rt; !trial.is_busy(lane(0, 0, 0)));
 }
 
+/// In the widest network a lane is busy until its packet has come, and no lane is afterwards.
+#[test]
+fn a_lane_is_busy_until_its_packet_has_come(rt: HostRuntime) {
+    let mut trial = Trial::new(rt, &[16, 16], 1, &[1]);
+    let far = lane(255, 0, 0);
+    trial.offer_at(0, far, &[7]);
+    trial.takes_turn(0);
+    assert!(rt; trial.is_busy(far));
+    trial.takes_turns(1, 40);
+    trial.has_come(far, 1);
+    assert!(rt; !trial.is_busy(far));
+    assert!(rt; !trial.is_busy(lane(0, 255, 0)));
+}
+
 /// Two packets of a class with two channels: the second overtakes the first, and no lane of the class is closed.
 #[test]
 fn a_packet_overtakes_another(rt: HostRuntime) {
