@@ -14,4 +14,7 @@ mod texts;
 pub use desk::Desk;
 pub use parts::{lane, single};
 pub use taking::Taking;
-pub use texts::{SIXTEEN_NODES, TWO_NODES, TWO_WORDS, WORD_AND_MARK};
+pub use texts::{
+    SIXTEEN_NODES, THREE_BY_TWO, TWO_CHANNELS, TWO_NODES, TWO_NODES_AND_WORDS, TWO_WORDS,
+    WORD_AND_MARK,
+};

@@ -30,6 +30,16 @@ pub fn config(radices: &[u8], depth: u8, channels: &[u8]) -> Config {
     config
 }
 
+/// The configuration of two nodes in a line, with the class `data` of one channel.
+pub fn two_nodes(depth: u8) -> Config {
+    let mut config = config(&[2], depth, &[1]);
+    config.classes.clear();
+    if let Ok(name) = Name::from("data") {
+        let _ = config.classes.try_push(name);
+    }
+    config
+}
+
 /// A packet of these words on the lane.
 pub fn packet(rt: &impl Abort, lane: Lane, words: &[u32]) -> Packet {
     Packet::new(lane, words).expect(rt, "words of a packet")

@@ -23,18 +23,14 @@ pub fn made(alloc: Global, config: &Config) -> Result<Net, NetFault> {
     Net::new(alloc, config)
 }
 
-/// No network with these radices, depth and classes of so many channels is made, for this fault.
-pub fn is_refused(
-    rt: &impl Abort,
-    alloc: Global,
-    radices: &[u8],
-    depth: u8,
-    channels: &[u8],
-    fault: NetFault,
-) {
-    let refusal = made(alloc, &config(radices, depth, channels)).err();
+/// No network is made from the configuration, for this fault.
+pub fn is_refused(rt: &impl Abort, alloc: Global, config: &Config, fault: NetFault) {
+    let refusal = made(alloc, config).err();
     are_equal(rt, refusal, Some(fault));
 }
+
+/// A flit by its packet's number, its index and its word.
+pub type Arrival = (u16, u8, u32);
 
 /// What the parts of a network are expected to be.
 #[derive(Clone, Copy)]
@@ -217,6 +213,22 @@ impl<R: Abort + AllocGlobal + Copy> Trial<R> {
         are_equal(&self.rt, self.words_at(node).as_slice(), words);
     }
 
+    /// The flits that arrived at the node.
+    fn arrivals(&self, node: u8) -> Vec<Arrival> {
+        assert!(self.rt; u16::from(node) < self.net.nodes());
+        let mut all = Vec::new(self.rt.alloc());
+        for flit in self.net.delivered(node) {
+            let arrival = (flit.packet, flit.index, flit.word);
+            all.push(arrival).expect(&self.rt, "memory");
+        }
+        all
+    }
+
+    /// These flits arrived at the node.
+    pub fn has_arrived(&self, node: u8, flits: &[Arrival]) {
+        are_equal(&self.rt, self.arrivals(node).as_slice(), flits);
+    }
+
     /// Whether the lane's mark has arrived at the node.
     pub fn is_closed(&self, node: u8, lane: Lane) -> bool {
         assert!(self.rt; u16::from(node) < self.net.nodes());
@@ -255,6 +267,20 @@ impl<R: Abort + AllocGlobal + Copy> Trial<R> {
     /// The lane's flits under way are at these places.
     pub fn stands(&self, lane: Lane, places: &[Standing]) {
         are_equal(&self.rt, self.standings(lane).as_slice(), places);
+    }
+
+    /// The words of the lane's flits under way.
+    fn carried(&self, lane: Lane) -> Vec<u32> {
+        let mut words = Vec::new(self.rt.alloc());
+        for held in &self.view(lane).underway {
+            words.push(held.flit.word).expect(&self.rt, "memory");
+        }
+        words
+    }
+
+    /// The lane's flits under way have these words.
+    pub fn carries(&self, lane: Lane, words: &[u32]) {
+        are_equal(&self.rt, self.carried(lane).as_slice(), words);
     }
 
     /// So many of the lane's flits are under way.

@@ -65,6 +65,15 @@ fn takes(rt: &impl Abort, sink: &mut Sink, flit: Flit)
     }
 }
 
+/// The only flit of a packet, for which no memory was taken ahead.
+#[test]
+fn a_sink_takes_a_flit(rt: HostRuntime) {
+    let mut sink = Sink::new(rt.alloc(), 1);
+    assert!(rt; sink.delivered().is_empty());
+    takes(&rt, &mut sink, single(0, 5));
+    assert_eq!(rt; sink.delivered(), [single(0, 5)].as_slice());
+}
+
 /// The mark of the lane from node 0 to node 1, behind its first packet.
 fn mark() -> Flit
     ensures { result.lane.dst ≡ 1 }

@@ -3,7 +3,9 @@
 
 mod cases;
 mod faults;
+mod huge;
 mod runs;
+mod stopped;
 mod whole;
 mod words;
 mod worked;

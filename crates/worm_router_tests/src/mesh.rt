@@ -27,6 +27,9 @@ fn refuses_radices_in_order(rt: HostRuntime) {
     are_refused(&rt, &[], MeshFault::Dims);
     are_refused(&rt, &[7, 7, 7], MeshFault::TooManyNodes);
     are_refused(&rt, &[16, 16, 2], MeshFault::TooManyNodes);
+    // 260 nodes, in both ways, are the least past 256.
+    are_refused(&rt, &[2, 10, 13], MeshFault::TooManyNodes);
+    are_refused(&rt, &[4, 5, 13], MeshFault::TooManyNodes);
     have_nodes(&rt, &[16, 8, 2], 256);
     have_nodes(&rt, &[16, 16], 256);
     have_nodes(&rt, &[2], 2);
@@ -75,19 +78,28 @@ fn a_square_of_four(rt: HostRuntime) {
     is_edge(&rt, &mesh, 255, 255);
 }
 
+/// The link of this number leads from a node's port to another's.
+fn has_ends(rt: &impl Abort, mesh: &Mesh, number: u16, start: (u8, u8), end: (u8, u8)) {
+    let (from, out_port) = start;
+    let (to, in_port) = end;
+    let ends = LinkEnds {
+        from,
+        out_port,
+        to,
+        in_port,
+    };
+    assert_eq!(rt; mesh.link_ends(number), Some(ends));
+}
+
 #[test]
 fn a_line_of_two(rt: HostRuntime) {
     let mesh = mesh_of(&rt, &[2]);
+    assert_eq!(rt; mesh.links(), 2);
     assert_eq!(rt; mesh.dims(), 1);
     is_numbered(&rt, &mesh, 0, 1, Some(0));
     is_numbered(&rt, &mesh, 1, 0, Some(1));
-    let second = LinkEnds {
-        from: 1,
-        out_port: 0,
-        to: 0,
-        in_port: 1,
-    };
-    assert_eq!(rt; mesh.link_ends(1), Some(second));
+    has_ends(&rt, &mesh, 0, (0, 1), (1, 0));
+    has_ends(&rt, &mesh, 1, (1, 0), (0, 1));
     assert_eq!(rt; mesh.link_ends(2), None);
 }
 

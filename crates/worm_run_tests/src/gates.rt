@@ -54,6 +54,8 @@ fn two_workers_meet(rt: HostRuntime) {
     let ran = pair(rt, 2, &[17, 18]).run(2, 4, &gate);
     let trial = ran.ended(&[], &[4, 4]);
     assert_eq!(rt; trial.words_at(1).get(0), Some(&17u32));
+    assert!(rt; gate.first.load(Ordering::SeqCst));
+    assert!(rt; gate.second.load(Ordering::SeqCst));
 }
 
 /// At each turn a worker says that it is there, and then looks for the other.

@@ -8,7 +8,7 @@ use std::fmt::Debug;
 use std::process::Abort;
 use std::test::Fail;
 use worm_core::{Config, Script};
-use worm_text::{TextFault, read_network, read_traffic};
+use worm_text::{TextFault, Why, read_network, read_traffic};
 
 /// What is found is what is wanted. An `assert_eq!` is proved with all that its function holds, so that one here costs
 /// less than several there.
@@ -29,4 +29,40 @@ pub fn traffic(
 ) -> Result<Result<Script, TextFault>, Fail> {
     let config = read_network(network)?;
     Ok(read_traffic(alloc, text, &config))
+}
+
+/// The line of a fault, and what is wrong with it.
+pub type Told = Option<(u32, Why)>;
+
+/// What the reader says of a network's text.
+pub fn network_fault(text: &[u8]) -> Told {
+    match read_network(text) {
+        Ok(_) => None,
+        Err(fault) => Some((fault.line, fault.why)),
+    }
+}
+
+/// What the reader says of traffic for a network.
+pub fn traffic_fault(alloc: Global, network: &[u8], text: &[u8]) -> Result<Told, Fail> {
+    let Ok(config) = read_network(network) else {
+        return Err("no network".into());
+    };
+    match read_traffic(alloc, text, &config) {
+        Ok(_) => Ok(None),
+        Err(fault) => Ok(Some((fault.line, fault.why))),
+    }
+}
+
+/// The reader says what is wanted, of a text that is named by this.
+pub fn is_told(rt: &impl Abort, told: Told, wanted: Told, text: &str) {
+    assert_eq!(rt; told, wanted, "{text}");
+}
+
+/// The parts of a text, joined.
+pub fn joined(alloc: Global, parts: &[&[u8]]) -> Result<Vec<u8>, Fail> {
+    let mut whole = Vec::new(alloc);
+    for part in parts {
+        whole.extend_from_slice(part)?;
+    }
+    Ok(whole)
 }

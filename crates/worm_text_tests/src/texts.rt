@@ -3,4 +3,5 @@
 mod hostile;
 mod limits;
 mod network;
+mod strange;
 mod traffic;

@@ -27,6 +27,8 @@ fn a_flit_turns_the_corner(rt: HostRuntime) {
     trial.stands(far, &[(0, 0, link(2, 3, 0))]);
     trial.does([take(5, 2)]);
     trial.stands(far, &[(0, 0, buffer(5, 2, 0))]);
+    trial.carries(far, &[7]);
+    trial.has_come(far, 0);
 }
 
 /// One node alone moves a packet of four words: what its link and its buffer hold, and what its source keeps.
@@ -91,8 +93,10 @@ fn a_packet_overtakes_another(rt: HostRuntime) {
         send(1, 0, 1),
     ]);
     trial.has_come(over, 1);
+    trial.has_arrived(1, &[(1, 0, 3)]);
     let expected = [(0, 0, buffer(1, 0, 0)), (0, 1, buffer(1, 0, 0))];
     trial.stands(over, &expected);
+    trial.carries(over, &[1, 2]);
     let refused = Err(StepFault::Refused(OfferFault::ManyChannels));
     trial.answers([close(over)], refused);
 }

@@ -6,7 +6,7 @@ use std::io;
 use std::io::Read;
 use std::process::Abort;
 use std::test::Fail;
-use worm_cases::{TWO_NODES, TWO_WORDS};
+use worm_cases::{TWO_NODES, TWO_NODES_AND_WORDS, TWO_WORDS};
 use worm_core::{Net, StepFault};
 use worm_program::{ProgramFault, report_run};
 use worm_report::Summary;
@@ -61,14 +61,18 @@ fn run_sipped(alloc: Global, turns: u64, network_fails: usize, traffic_fails: us
     }
 }
 
-/// A failing network reader is asked no more, and the traffic reader not at all.
+/// A network reader that fails in this call is asked no more, and the traffic reader not at all.
+fn network_fails_at(rt: &impl Abort, alloc: Global, fails_at: usize) -> Result<(), Fail> {
+    let run = run_sipped(alloc, 1, fails_at, 0);
+    assert!(rt; run.ran.report.is_empty());
+    assert_eq!(rt; (run.network_calls, run.traffic_calls), (fails_at, 0));
+    is_fault(rt, alloc, run.ran.answer, 5, "wormrun: cannot read network")
+}
+
 #[test]
 fn a_network_that_fails_in_mid_stream(rt: HostRuntime) -> Result<(), Fail> {
     for fails_at in 1..TWO_NODES.len() + 2 {
-        let run = run_sipped(rt.alloc(), 1, fails_at, 0);
-        gives(&rt, &run.ran, Err(ProgramFault::ReadNetwork), b"");
-        assert_eq!(rt; run.network_calls, fails_at);
-        assert_eq!(rt; run.traffic_calls, 0);
+        network_fails_at(&rt, rt.alloc(), fails_at)?;
     }
     Ok(())
 }
@@ -102,17 +106,18 @@ fn readers_of_a_byte_a_call_are_read_to_their_end(rt: HostRuntime) {
 }
 
 /// A reader of both texts that fails in this call is asked no more.
-fn input_fails_at(rt: &impl Abort, alloc: Global, fails_at: usize) {
-    let mut input = Sipped::new(TWO_NODES, fails_at);
+fn input_fails_at(rt: &impl Abort, alloc: Global, fails_at: usize) -> Result<(), Fail> {
+    let mut input = Sipped::new(TWO_NODES_AND_WORDS, fails_at);
     let ran = run_reader(alloc, &mut input);
-    gives(rt, &ran, Err(ProgramFault::ReadNetwork), b"");
+    assert!(rt; ran.report.is_empty());
     assert_eq!(rt; input.calls, fails_at);
+    is_fault(rt, alloc, ran.answer, 5, "wormrun: cannot read network")
 }
 
 #[test]
 fn a_joined_input_that_fails_in_mid_stream(rt: HostRuntime) -> Result<(), Fail> {
-    for fails_at in 1..TWO_NODES.len() + 2 {
-        input_fails_at(&rt, rt.alloc(), fails_at);
+    for fails_at in 1..TWO_NODES_AND_WORDS.len() + 2 {
+        input_fails_at(&rt, rt.alloc(), fails_at)?;
     }
     Ok(())
 }
@@ -160,5 +165,5 @@ fn want_of_memory_in_a_turn(rt: HostRuntime) -> Result<(), Fail> {
     gives(&rt, &ran, Ok(()), STOPPED_RUN);
     let ran = report_stopped(&rt, rt.alloc(), Some(StepFault::NoMemory))?;
     gives(&rt, &ran, Err(ProgramFault::NoMemory), STOPPED_RUN);
-    Ok(())
+    is_fault(&rt, rt.alloc(), ran.answer, 6, "wormrun: out of memory")
 }

@@ -1,27 +1,11 @@
+//! Runs of two texts on this thread, texts that are refused, and where two texts in one input are cut.
+
 use crate::run::cases::{SHALLOW, gives, has_status, is_refused, reports, run_reader};
-use std::alloc::Global;
 use std::io;
 use std::io::Read;
-use std::process::Abort;
 use std::test::Fail;
 use worm_cases::{TWO_NODES, TWO_WORDS};
-use worm_program::{MOST_BYTES, ProgramFault, network_end};
-use worm_text::{ReadFault, read_text};
-
-/// Gives a number of bytes `x`.
-#[derive(Drop)]
-struct Crosses {
-    left: usize,
-}
-
-impl Read for Crosses {
-    fn read(&mut self, buf: &mut [u8]) -> io::Result<usize> {
-        let count = self.left.min(buf.len());
-        buf[..count].fill(b'x');
-        self.left -= count;
-        Ok(count)
-    }
-}
+use worm_program::{ProgramFault, network_end};
 
 /// Fails at its first read.
 #[derive(Drop)]
@@ -31,17 +15,6 @@ impl Read for Broken {
     fn read(&mut self, _buf: &mut [u8]) -> io::Result<usize> {
         Err(io::Error::from(io::ErrorKind::Interrupted))
     }
-}
-
-/// How many bytes are read of a reader that has so many.
-fn length_read(alloc: Global, left: usize) -> Result<usize, ReadFault> {
-    let text = read_text(alloc, &mut Crosses { left }, MOST_BYTES)?;
-    Ok(text.len())
-}
-
-/// A reader that has so many bytes is read with this end.
-fn reads(rt: &impl Abort, alloc: Global, left: usize, wanted: Result<usize, ReadFault>) {
-    assert_eq!(rt; length_read(alloc, left), wanted);
 }
 
 /// The place where two texts in one input are cut.
@@ -205,8 +178,6 @@ fn readers_that_fail_give_nothing(rt: HostRuntime) {
     let ran = run_reader(rt.alloc(), &mut Broken);
     gives(&rt, &ran, Err(ProgramFault::ReadNetwork), b"");
     has_status(&rt, ProgramFault::ReadNetwork, 5);
-    reads(&rt, rt.alloc(), MOST_BYTES, Ok(MOST_BYTES));
-    reads(&rt, rt.alloc(), MOST_BYTES + 1, Err(ReadFault::Unreadable));
 }
 
 /// Two texts in one input, and the place where they are cut.

@@ -6,15 +6,11 @@ use std::process::{Abort, ExitCode};
 use std::sync::Wait;
 use std::test::Fail;
 use std::thread::Threads;
-use worm_cases::{Desk, TWO_NODES, TWO_WORDS};
+use worm_cases::{Desk, TWO_NODES, TWO_NODES_AND_WORDS, TWO_WORDS};
 use worm_program::run;
 
 /// The network and the traffic, and a text that is neither.
 const FILES: &[(&str, &[u8])] = &[("n", TWO_NODES), ("t", TWO_WORDS), ("x", b"x\n")];
-
-/// Both texts in one input.
-const JOINED: &[u8] =
-    b"wormnet 1\nradix 2\ndims 1\ndepth 2\nclass data\nend\nwormtraffic 1\nsend 0 0 1 data 17 18\nend\n";
 
 const ONE_TURN: &str = "wormreport 1\n\
      turns 1 workers 1 drain 0\n\
@@ -46,7 +42,7 @@ fn ends(
     printed: &str,
     said: &str,
 ) {
-    let desk = Desk::new(alloc, words, FILES, JOINED);
+    let desk = Desk::new(alloc, words, FILES, TWO_NODES_AND_WORDS);
     ends_with(rt, &desk, status);
     kept(rt, &desk.opened, opened);
     kept(rt, &desk.printed, printed);
@@ -197,7 +193,7 @@ const UNKNOWN: &[&[&[u8]]] = &[
 #[test]
 fn words_that_are_not_known(rt: HostRuntime) {
     for words in UNKNOWN {
-        let desk = Desk::new(rt.alloc(), words, FILES, JOINED);
+        let desk = Desk::new(rt.alloc(), words, FILES, TWO_NODES_AND_WORDS);
         ends_with(&rt, &desk, 2);
         kept(&rt, &desk.opened, "");
         kept(&rt, &desk.printed, "");
@@ -211,7 +207,7 @@ const BOTH_WAYS: &[&[&[u8]]] = &[&[b"wormrun", b"n", b"t", b"--turns", b"1"], &[
 #[test]
 fn an_output_that_is_full(rt: HostRuntime) -> Result<(), Fail> {
     for words in BOTH_WAYS {
-        let desk = Desk::new(rt.alloc(), words, FILES, JOINED);
+        let desk = Desk::new(rt.alloc(), words, FILES, TWO_NODES_AND_WORDS);
         desk.room.set(20);
         ends_with(&rt, &desk, 8);
         kept(&rt, &desk.said, "wormrun: report not written\n");

@@ -55,6 +55,19 @@ const ALL_OPTIONS: &[&str] = &[
     "0",
 ];
 
+/// The most turns, and the least of all else.
+const MOST_TURNS: &[&str] = &[
+    "wormrun",
+    "n",
+    "t",
+    "--turns",
+    "1000000",
+    "--workers",
+    "1",
+    "--drain",
+    "0",
+];
+
 #[test]
 fn words_are_read(rt: HostRuntime) {
     let words = accepted(&rt, rt.alloc(), ONE_TURN);
@@ -62,10 +75,13 @@ fn words_are_read(rt: HostRuntime) {
     are_options(&rt, words.options, 1, 1, 0);
     let words = accepted(&rt, rt.alloc(), ALL_OPTIONS);
     are_options(&rt, words.options, 0, 16, 1_000_000);
+    let words = accepted(&rt, rt.alloc(), MOST_TURNS);
+    are_options(&rt, words.options, 1_000_000, 1, 0);
 }
 
 /// Words that are not the program's.
 const WRONG: &[&[&str]] = &[
+    &["wormrun", "--turns", "1"],
     &["wormrun", "n", "--turns", "1"],
     &["wormrun", "n", "t", "u", "--turns", "1"],
     &["wormrun", "n", "t"],

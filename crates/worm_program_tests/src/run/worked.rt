@@ -5,14 +5,10 @@ use std::alloc::{AllocError, Global};
 use std::io::Write;
 use std::process::Abort;
 use std::test::Fail;
-use worm_cases::{TWO_NODES, TWO_WORDS, WORD_AND_MARK};
+use worm_cases::{
+    THREE_BY_TWO, TWO_CHANNELS, TWO_NODES, TWO_NODES_AND_WORDS, TWO_WORDS, WORD_AND_MARK,
+};
 use worm_program::{ProgramFault, run_alone};
-
-/// Two nodes, one class with two channels.
-const TWO_CHANNELS: &[u8] = b"wormnet 2\ndims 1\nradix 2\ndepth 2\nclass data channels 2\nend\n";
-
-/// Three nodes by two.
-const THREE_BY_TWO: &[u8] = b"wormnet 2\ndims 2\nradix 3 2\ndepth 2\nclass data channels 1\nend\n";
 
 #[test]
 fn two_sources_share_a_channel_packet_by_packet(rt: HostRuntime) {
@@ -137,11 +133,9 @@ fn dimensions_have_radices_of_their_own(rt: HostRuntime) {
 }
 
 #[test]
-fn a_joined_input_runs_a_hundred_turns(rt: HostRuntime) -> Result<(), Fail> {
-    let mut joined = Vec::new(rt.alloc());
-    joined.extend_from_slice(TWO_NODES)?;
-    joined.extend_from_slice(TWO_WORDS)?;
-    let ran = run_reader(rt.alloc(), &mut joined.as_slice());
+fn a_joined_input_runs_a_hundred_turns(rt: HostRuntime) {
+    let mut input = TWO_NODES_AND_WORDS;
+    let ran = run_reader(rt.alloc(), &mut input);
     gives(
         &rt,
         &ran,
@@ -153,7 +147,6 @@ fn a_joined_input_runs_a_hundred_turns(rt: HostRuntime) -> Result<(), Fail> {
           not offered 0\n\
           total injected 2 delivered 2 underway 0\n",
     );
-    Ok(())
 }
 
 /// The line in which, or before which, a text of these bytes was cut.

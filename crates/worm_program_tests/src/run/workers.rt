@@ -90,7 +90,7 @@ pub fn runs<R: Threads + Wait + Sync, G: Gate + Sync, W: Write>(
 }
 
 /// What a run of both texts answers and writes.
-fn run_both<R: Threads + Wait + Sync, G: Gate + Sync>(
+pub fn run_both<R: Threads + Wait + Sync, G: Gate + Sync>(
     rt: &R,
     alloc: Global,
     texts: (&[u8], &[u8]),
@@ -267,6 +267,7 @@ fn two_workers_ask_the_gate_before_each_turn(rt: HostRuntime) {
 fn three_workers_on_two_nodes_are_refused(rt: HostRuntime) -> Result<(), Fail> {
     let alloc = rt.alloc();
     let ran = run_both(&rt, alloc, (TWO_NODES, TWO_WORDS), (1, 3, 0), &FreeGate);
+    assert!(rt; ran.report.is_empty());
     is_fault(
         &rt,
         alloc,

@@ -75,7 +75,20 @@ const HALF_WAY: Worked = Worked {
      total injected 2 delivered 1 underway 1\n",
 };
 
-/// A word and the mark behind it arrived.
+/// A word arrived, and the mark behind it waits.
+const CLOSING: Worked = Worked {
+    texts: (TWO_NODES, WORD_AND_MARK),
+    turns: 1,
+    workers: 1,
+    report: "wormreport 1\n\
+     turns 1 workers 1 drain 0\n\
+     delivered 1 from 0 class 0 packet 0 flit 0 word 5\n\
+     underway 0 1 class 0 packet 1 flit 0 source\n\
+     not offered 0\n\
+     total injected 2 delivered 1 underway 1\n",
+};
+
+/// Both arrived.
 const CLOSED: Worked = Worked {
     texts: (TWO_NODES, WORD_AND_MARK),
     turns: 2,
@@ -147,7 +160,7 @@ fn is_got_in_pieces(rt: &(impl Abort + Threads + Wait + Sync), alloc: Global, wo
 
 #[test]
 fn writers_that_fail_have_taken_what_fits(rt: HostRuntime) {
-    for worked in [HALF_WAY, CLOSED, STOPPED] {
+    for worked in [HALF_WAY, CLOSING, CLOSED, STOPPED] {
         is_cut_short(&rt, rt.alloc(), &worked);
     }
     has_status(&rt, ProgramFault::Write, 8);
@@ -155,7 +168,7 @@ fn writers_that_fail_have_taken_what_fits(rt: HostRuntime) {
 
 #[test]
 fn writers_that_take_little_get_all(rt: HostRuntime) {
-    for worked in [HALF_WAY, CLOSED, STOPPED] {
+    for worked in [HALF_WAY, CLOSING, CLOSED, STOPPED] {
         is_got_in_pieces(&rt, rt.alloc(), &worked);
     }
 }

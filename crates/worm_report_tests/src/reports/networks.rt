@@ -11,6 +11,7 @@ use std::process::Abort;
 use worm_core::{Act, Config, Entry, Moved, Name, Net, Script, Step};
 use worm_flit::{Lane, Packet};
 use worm_report::{ReportFault, Summary, write_report};
+use worm_text::read_network;
 
 /// What the source of a lane is asked: to take a packet of these words, or to close the lane.
 #[derive(Clone, Copy)]
@@ -54,6 +55,14 @@ fn config(given: &Given) -> Config {
         let _ = config.classes.try_push(Name::new());
     }
     config
+}
+
+/// The configuration of a network's text.
+fn config_of(rt: &impl Abort, text: &[u8]) -> Config {
+    match read_network(text) {
+        Ok(config) => config,
+        Err(fault) => panic!(rt; "{fault:?}"),
+    }
 }
 
 /// A packet of these words on the lane.
@@ -114,7 +123,18 @@ impl<R: Abort + AllocGlobal + Copy> Drop for Ground<R> {
 impl<R: Abort + AllocGlobal + Copy> Ground<R> {
     /// The network, whose sources were asked nothing yet.
     pub fn new(rt: R, given: &Given) -> Ground<R> {
-        let made = Net::new(rt.alloc(), &config(given));
+        Ground::made(rt, &config(given))
+    }
+
+    /// The network of a text, whose sources were asked nothing yet.
+    pub fn read(rt: R, text: &[u8]) -> Ground<R> {
+        let config = config_of(&rt, text);
+        Ground::made(rt, &config)
+    }
+
+    /// The network of the configuration.
+    fn made(rt: R, config: &Config) -> Ground<R> {
+        let made = Net::new(rt.alloc(), config);
         let net = made.expect(&rt, "a network");
         Ground { rt, net }
     }

@@ -8,6 +8,14 @@ use std::process::Abort;
 use worm_cases::lane;
 use worm_report::{ReportFault, Summary};
 
+/// One of two words arrived, and the other waits.
+const HALF_WAY: &str = "wormreport 1\n\
+     turns 1 workers 1 drain 0\n\
+     delivered 1 from 0 class 0 packet 0 flit 0 word 17\n\
+     underway 0 1 class 0 packet 0 flit 1 source\n\
+     not offered 0\n\
+     total injected 2 delivered 1 underway 1\n";
+
 /// The word arrived, and the mark waits.
 const MARK_WAITS: &str = "wormreport 1\n\
      turns 1 workers 1 drain 0\n\
@@ -106,6 +114,17 @@ fn goes_out<R: Abort + AllocGlobal + Copy>(ground: &Ground<R>, summary: &Summary
         takes_first(ground, summary, wanted, room);
     }
     takes_first(ground, summary, wanted, usize::MAX);
+}
+
+/// Two words after one turn.
+fn half_way<R: Abort + AllocGlobal + Copy>(rt: R) -> Ground<R> {
+    let asked = [Asked::Packet(lane(0, 1, 0), &[17, 18])];
+    Ground::after_turns(rt, &two_nodes(&asked), 1)
+}
+
+#[test]
+fn half_a_packet_for_uneven_writers(rt: HostRuntime) {
+    goes_out(&half_way(rt), &summary(1, 0), HALF_WAY);
 }
 
 /// A word and a mark after so many turns.

@@ -3,7 +3,7 @@
 use super::networks::{Asked, Given, Ground, summary, two_nodes};
 use super::steps::{feed, grant, route, send, take};
 use std::process::Abort;
-use worm_cases::lane;
+use worm_cases::{TWO_CHANNELS, lane};
 use worm_core::Step;
 use worm_report::Summary;
 
@@ -140,16 +140,10 @@ fn a_worm_stands_from_link_to_source(rt: HostRuntime) {
 /// A packet of a class with two channels overtook another, which stands in a buffer past the link.
 #[test]
 fn a_packet_overtook_another(rt: HostRuntime) {
-    let given = Given {
-        radices: &[2],
-        depth: 2,
-        channels: &[2],
-        asked: &[
-            Asked::Packet(lane(0, 1, 0), &[1, 2]),
-            Asked::Packet(lane(0, 1, 0), &[3]),
-        ],
-    };
-    let steps = [
+    let mut ground = Ground::read(rt, TWO_CHANNELS);
+    ground.asks(&Asked::Packet(lane(0, 1, 0), &[1, 2]));
+    ground.asks(&Asked::Packet(lane(0, 1, 0), &[3]));
+    ground.does_all(&[
         feed(0, 0),
         feed(0, 0),
         route(0, 2, 0),
@@ -166,7 +160,7 @@ fn a_packet_overtook_another(rt: HostRuntime) {
         route(1, 0, 1),
         grant(1, 0, 1, 1),
         send(1, 0, 1),
-    ];
+    ]);
     let wanted = "wormreport 1\n\
          turns 0 workers 1 drain 0\n\
          delivered 1 from 0 class 0 packet 1 flit 0 word 3\n\
@@ -174,7 +168,7 @@ fn a_packet_overtook_another(rt: HostRuntime) {
          underway 0 1 class 0 packet 0 flit 1 buffer 1 0 0\n\
          not offered 0\n\
          total injected 3 delivered 1 underway 2\n";
-    reports_steps(rt, &given, &steps, &summary(0, 0), wanted);
+    ground.reports(&summary(0, 0), wanted);
 }
 
 #[test]

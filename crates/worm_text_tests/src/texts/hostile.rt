@@ -6,12 +6,9 @@ use std::alloc::Global;
 use std::fmt::Display;
 use std::process::Abort;
 use std::test::Fail;
-use worm_cases::{TWO_NODES, TWO_WORDS};
+use worm_cases::{THREE_BY_TWO, TWO_NODES, TWO_WORDS};
 use worm_core::{Act, Config, Entry, Script};
 use worm_flit::{Lane, Packet};
-
-/// A mesh of three by two nodes, one class with one channel.
-const THREE_BY_TWO: &[u8] = b"wormnet 2\ndims 2\nradix 3 2\ndepth 2\nclass data channels 1\nend\n";
 
 /// What a text says.
 #[derive(Clone, Copy)]

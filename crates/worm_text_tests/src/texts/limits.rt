@@ -1,58 +1,18 @@
-//! What both readers say of texts that are cut, at their limits and past them, huge, or hold bytes that no text has.
+//! What both readers say of texts that are cut, at their limits and past them, or huge.
 
+use crate::cases::{Told, is_told, joined, network_fault, traffic_fault};
 use std::alloc::Global;
 use std::process::Abort;
 use std::test::Fail;
-use worm_cases::{SIXTEEN_NODES, TWO_NODES, TWO_WORDS, WORD_AND_MARK};
-use worm_text::{Why, read_network, read_traffic};
-
-/// Two dimensions with radices of their own.
-const THREE_BY_TWO: &[u8] = b"wormnet 2\ndims 2\nradix 3 2\ndepth 2\nclass data channels 1\nend\n";
+use worm_cases::{SIXTEEN_NODES, THREE_BY_TWO, TWO_NODES, TWO_WORDS, WORD_AND_MARK};
+use worm_text::Why;
 
 /// As many nodes as there may be.
 const MOST_NODES: &[u8] = b"wormnet 1\nradix 16\ndims 2\ndepth 2\nclass data\nend\n";
 
-/// The line of a fault, and what is wrong with it.
-type Told = Option<(u32, Why)>;
-
-/// What the reader says of a network's text.
-fn network_fault(text: &[u8]) -> Told {
-    match read_network(text) {
-        Ok(_) => None,
-        Err(fault) => Some((fault.line, fault.why)),
-    }
-}
-
-/// What the reader says of traffic for a network.
-fn traffic_fault(alloc: Global, network: &[u8], text: &[u8]) -> Result<Told, Fail> {
-    let Ok(config) = read_network(network) else {
-        return Err("no network".into());
-    };
-    match read_traffic(alloc, text, &config) {
-        Ok(_) => Ok(None),
-        Err(fault) => Ok(Some((fault.line, fault.why))),
-    }
-}
-
-/// The reader says what is wanted, of a text that is named by this.
-fn is_told(rt: &impl Abort, told: Told, wanted: Told, text: &str) {
-    assert_eq!(rt; told, wanted, "{text}");
-}
-
-/// The parts of a text, joined.
-fn joined(alloc: Global, parts: &[&[u8]]) -> Result<Vec<u8>, Fail> {
-    let mut whole = Vec::new(alloc);
-    for part in parts {
-        whole.extend_from_slice(part)?;
-    }
-    Ok(whole)
-}
-
-/// The text with a byte more at this place.
-fn with_byte(alloc: Global, text: &[u8], place: usize, byte: u8) -> Result<Vec<u8>, Fail> {
-    let (front, back) = text.split_at(place.min(text.len()));
-    joined(alloc, &[front, &[byte], back])
-}
+/// As many, in three dimensions.
+const MOST_IN_THREE: &[u8] =
+    b"wormnet 2\ndims 3\nradix 16 8 2\ndepth 2\nclass data channels 1\nend\n";
 
 /// Where the line of this number ends: the place of its line feed.
 fn end_of(text: &[u8], number: usize) -> usize {
@@ -128,12 +88,17 @@ fn traffic_that_is_cut_off_has_no_end(rt: HostRuntime) -> Result<(), Fail> {
 /// Texts of networks, the number of a line, another line in its place, and what the reader says then.
 const LIMITS_OF_A_NETWORK: &[(&[u8], usize, &str, Told)] = &[
     (TWO_NODES, 2, "radix 0", Some((2, Why::Range))),
+    (TWO_NODES, 2, "radix 1", Some((2, Why::Range))),
+    (TWO_NODES, 2, "radix 2", None),
     (TWO_NODES, 2, "radix 16", None),
+    (TWO_NODES, 2, "radix 17", Some((2, Why::Range))),
     (TWO_NODES, 3, "dims 0", Some((3, Why::Range))),
     (TWO_NODES, 3, "dims 3", None),
     (TWO_NODES, 3, "dims 4", Some((3, Why::Range))),
     (TWO_NODES, 4, "depth 0", Some((4, Why::Range))),
     (TWO_NODES, 4, "depth 1", None),
+    (TWO_NODES, 4, "depth 16", None),
+    (TWO_NODES, 4, "depth 17", Some((4, Why::Range))),
     (TWO_NODES, 5, "class abcdefghijklmnop", None),
     (
         TWO_NODES,
@@ -147,9 +112,61 @@ const LIMITS_OF_A_NETWORK: &[(&[u8], usize, &str, Told)] = &[
     (THREE_BY_TWO, 3, "radix 16 16", None),
     (THREE_BY_TWO, 3, "radix 2 17", Some((3, Why::Range))),
     (THREE_BY_TWO, 3, "radix 1 2", Some((3, Why::Range))),
+    (THREE_BY_TWO, 4, "depth 0", Some((4, Why::Range))),
+    (THREE_BY_TWO, 4, "depth 1", None),
     (THREE_BY_TWO, 4, "depth 16", None),
     (THREE_BY_TWO, 4, "depth 17", Some((4, Why::Range))),
+    (
+        THREE_BY_TWO,
+        5,
+        "class data channels 0",
+        Some((5, Why::Range)),
+    ),
     (THREE_BY_TWO, 5, "class data channels 8", None),
+    (
+        THREE_BY_TWO,
+        5,
+        "class data channels 9",
+        Some((5, Why::Range)),
+    ),
+    (THREE_BY_TWO, 5, "class abcdefghijklmnop channels 1", None),
+    (
+        THREE_BY_TWO,
+        5,
+        "class abcdefghijklmnopq channels 1",
+        Some((5, Why::Name)),
+    ),
+    // 256 nodes, and the least number past it that is a product of radices, 260, in two ways.
+    (MOST_IN_THREE, 3, "radix 16 8 2", None),
+    (MOST_IN_THREE, 3, "radix 2 10 13", Some((3, Why::Range))),
+    (MOST_IN_THREE, 3, "radix 4 5 13", Some((3, Why::Range))),
+];
+
+/// Texts of as many classes and channels as there may be, each with one more, and what the reader says of them.
+const CLASSES: &[(&str, Told)] = &[
+    (
+        "wormnet 1\nradix 2\ndims 1\ndepth 2\nclass a\nclass b\nclass c\nclass d\nend\n",
+        None,
+    ),
+    (
+        "wormnet 1\nradix 2\ndims 1\ndepth 2\nclass a\nclass b\nclass c\nclass d\nclass e\nend\n",
+        Some((9, Why::TooMany)),
+    ),
+    (
+        "wormnet 2\ndims 1\nradix 2\ndepth 2\nclass a channels 2\nclass b channels 2\nclass c channels 2\n\
+         class d channels 2\nend\n",
+        None,
+    ),
+    (
+        "wormnet 2\ndims 1\nradix 2\ndepth 2\nclass a channels 2\nclass b channels 2\nclass c channels 2\n\
+         class d channels 3\nend\n",
+        Some((8, Why::Range)),
+    ),
+    (
+        "wormnet 2\ndims 1\nradix 2\ndepth 2\nclass a channels 1\nclass b channels 1\nclass c channels 1\n\
+         class d channels 1\nclass e channels 1\nend\n",
+        Some((9, Why::TooMany)),
+    ),
 ];
 
 #[test]
@@ -159,6 +176,13 @@ fn limits_of_a_network(rt: HostRuntime) -> Result<(), Fail> {
         is_told(&rt, told, *wanted, line);
     }
     Ok(())
+}
+
+#[test]
+fn limits_of_classes_and_channels(rt: HostRuntime) {
+    for (text, wanted) in CLASSES {
+        is_told(&rt, network_fault(text.as_bytes()), *wanted, text);
+    }
 }
 
 /// Texts of networks, a line of traffic for each, and what the reader says of it.
@@ -213,8 +237,17 @@ fn traffic_with_long(alloc: Global, front: &str, back: &str) -> Result<Told, Fai
     traffic_with(alloc, TWO_NODES, line.as_str())
 }
 
-/// Numbers of lines of two nodes' text, with the fields before such a number.
-const NUMBERS_OF_A_NETWORK: &[(usize, u32, &str)] = &[(3, 3, "dims "), (4, 4, "depth ")];
+/// Texts of networks and numbers of lines of them, with the fields before such a number.
+const NUMBERS_OF_A_NETWORK: &[(&[u8], usize, u32, &str)] = &[
+    (TWO_NODES, 2, 2, "radix "),
+    (TWO_NODES, 3, 3, "dims "),
+    (TWO_NODES, 4, 4, "depth "),
+    (THREE_BY_TWO, 2, 2, "dims "),
+    (THREE_BY_TWO, 3, 3, "radix "),
+    (THREE_BY_TWO, 3, 3, "radix 3 "),
+    (THREE_BY_TWO, 4, 4, "depth "),
+    (THREE_BY_TWO, 5, 5, "class data channels "),
+];
 
 /// The fields of an entry before such a number, and behind it.
 const NUMBERS_OF_TRAFFIC: &[(&str, &str)] = &[
@@ -224,12 +257,14 @@ const NUMBERS_OF_TRAFFIC: &[(&str, &str)] = &[
     ("send 0 0 1 data ", " 1"),
     ("send 0 0 1 data 1 ", ""),
     ("close ", " 0 1 data"),
+    ("close 0 ", " 1 data"),
+    ("close 0 0 ", " data"),
 ];
 
 /// Such a number of a network is out of range.
 fn long_in_a_network(rt: &impl Abort, alloc: Global) -> Result<(), Fail> {
-    for (number, line, front) in NUMBERS_OF_A_NETWORK {
-        let told = network_with_long(alloc, TWO_NODES, *number, front)?;
+    for (text, number, line, front) in NUMBERS_OF_A_NETWORK {
+        let told = network_with_long(alloc, text, *number, front)?;
         is_told(rt, told, Some((*line, Why::Range)), front);
     }
     Ok(())
@@ -258,115 +293,5 @@ fn a_huge_line_has_no_end(rt: HostRuntime) -> Result<(), Fail> {
     is_told(&rt, network_fault(text.as_slice()), wanted, "network");
     let told = traffic_fault(rt.alloc(), TWO_NODES, text.as_slice())?;
     is_told(&rt, told, wanted, "traffic");
-    Ok(())
-}
-
-/// What is wrong with a field of two nodes' text that has a byte too many, by line and by place in the line.
-fn network_why(line: u32, field: u32) -> Why {
-    match (line, field) {
-        (1, _) => Why::Header,
-        (_, 0) => Why::UnknownWord,
-        (5, _) => Why::Name,
-        (_, _) => Why::Number,
-    }
-}
-
-/// The same of the text of two words.
-fn traffic_why(line: u32, field: u32) -> Why {
-    match (line, field) {
-        (1, _) => Why::Header,
-        (_, 0) => Why::UnknownWord,
-        (2, 4) => Why::Name,
-        (_, _) => Why::Number,
-    }
-}
-
-/// A place of a text where a field begins or ends, with its line and its place in the line, counted from 0.
-type Border = (usize, u32, u32);
-
-/// Where fields of a text begin and end.
-fn borders(alloc: Global, text: &[u8]) -> Result<Vec<Border>, Fail> {
-    let mut found = Vec::new(alloc);
-    let (mut line, mut field) = (1u32, 0u32);
-    let mut begins = true;
-    for (at, byte) in text.iter().enumerate() {
-        let ends = *byte == b' ' || *byte == b'\n';
-        if begins || ends {
-            found.push((at, line, field))?;
-        }
-        match *byte {
-            b'\n' => {
-                line = line.saturating_add(1);
-                field = 0;
-            }
-            b' ' => field = field.saturating_add(1),
-            _ => (),
-        }
-        begins = ends;
-    }
-    Ok(found)
-}
-
-/// The reader says of a text with the byte at the place what is wanted.
-fn is_told_at(rt: &impl Abort, told: Told, wanted: Told, byte: u8, at: usize) {
-    assert_eq!(rt; told, wanted, "{byte} at {at}");
-}
-
-/// What the reader says of two nodes' text with the byte there.
-fn network_with_byte(alloc: Global, at: usize, byte: u8) -> Result<Told, Fail> {
-    let text = with_byte(alloc, TWO_NODES, at, byte)?;
-    Ok(network_fault(text.as_slice()))
-}
-
-/// What the reader says of the text of two words with the byte there.
-fn traffic_with_byte(alloc: Global, at: usize, byte: u8) -> Result<Told, Fail> {
-    let text = with_byte(alloc, TWO_WORDS, at, byte)?;
-    traffic_fault(alloc, TWO_NODES, text.as_slice())
-}
-
-/// No field of two nodes' text has this byte.
-fn network_has_no(rt: &impl Abort, alloc: Global, byte: u8) -> Result<(), Fail> {
-    for (at, line, field) in borders(alloc, TWO_NODES)? {
-        let told = network_with_byte(alloc, at, byte)?;
-        is_told_at(rt, told, Some((line, network_why(line, field))), byte, at);
-    }
-    Ok(())
-}
-
-/// No field of the text of two words has this byte.
-fn traffic_has_no(rt: &impl Abort, alloc: Global, byte: u8) -> Result<(), Fail> {
-    for (at, line, field) in borders(alloc, TWO_WORDS)? {
-        let told = traffic_with_byte(alloc, at, byte)?;
-        is_told_at(rt, told, Some((line, traffic_why(line, field))), byte, at);
-    }
-    Ok(())
-}
-
-#[test]
-fn bytes_that_no_field_has(rt: HostRuntime) -> Result<(), Fail> {
-    for byte in [0u8, 13, 255] {
-        network_has_no(&rt, rt.alloc(), byte)?;
-        traffic_has_no(&rt, rt.alloc(), byte)?;
-    }
-    Ok(())
-}
-
-/// The text with a carriage return at each end of a line.
-fn with_returns(alloc: Global, text: &[u8]) -> Result<Vec<u8>, Fail> {
-    let mut changed = Vec::new(alloc);
-    for byte in text {
-        if *byte == b'\n' {
-            changed.push(13)?;
-        }
-        changed.push(*byte)?;
-    }
-    Ok(changed)
-}
-
-#[test]
-fn lines_that_end_with_a_carriage_return(rt: HostRuntime) -> Result<(), Fail> {
-    let text = with_returns(rt.alloc(), TWO_WORDS)?;
-    let told = traffic_fault(rt.alloc(), TWO_NODES, text.as_slice())?;
-    is_told(&rt, told, Some((1, Why::Header)), "carriage returns");
     Ok(())
 }

@@ -4,7 +4,7 @@ use crate::cases::{are_equal, network};
 use std::alloc::Global;
 use std::process::Abort;
 use std::test::Fail;
-use worm_cases::TWO_NODES;
+use worm_cases::{THREE_BY_TWO, TWO_NODES};
 use worm_core::Config;
 use worm_text::{TextFault, Why};
 
@@ -324,33 +324,21 @@ fn the_first_of_several_faults(rt: HostRuntime) {
     are_refused(&rt, FIRST_FAULTS);
 }
 
-/// At the line in which the text was cut, or that would come next.
-#[test]
-fn a_text_that_is_cut_off_has_no_end(rt: HostRuntime) {
+/// Each first part of the text has no end, at the line in which it was cut, or that would come next.
+fn is_cut(rt: &impl Abort, text: &[u8]) {
     let mut line = 1;
-    for (at, byte) in TWO_NODES.iter().enumerate() {
-        is_refused(&rt, &TWO_NODES[..at], line, Why::NoEnd);
+    for (at, byte) in text.iter().enumerate() {
+        is_refused(rt, &text[..at], line, Why::NoEnd);
         if *byte == b'\n' {
             line = line.saturating_add(1);
         }
     }
 }
 
-/// A text whose radix has a thousand digits.
-fn long_radix(alloc: Global) -> Result<Vec<u8>, Fail> {
-    let mut text = Vec::from_slice(alloc, b"wormnet 1\nradix ")?;
-    for _digit in 0..1000 {
-        text.push(b'7')?;
-    }
-    text.push(b'\n')?;
-    Ok(text)
-}
-
 #[test]
-fn a_number_of_a_thousand_digits_is_out_of_range(rt: HostRuntime) -> Result<(), Fail> {
-    let text = long_radix(rt.alloc())?;
-    is_refused(&rt, text.as_slice(), 2, Why::Range);
-    Ok(())
+fn a_text_that_is_cut_off_has_no_end(rt: HostRuntime) {
+    is_cut(&rt, TWO_NODES);
+    is_cut(&rt, THREE_BY_TWO);
 }
 
 /// Texts with bytes that no text has, each with the line of its fault, and what that is.

@@ -4,13 +4,10 @@ use crate::cases::{are_equal, traffic};
 use std::alloc::Global;
 use std::process::Abort;
 use std::test::Fail;
-use worm_cases::{TWO_NODES, TWO_WORDS};
+use worm_cases::{TWO_CHANNELS, TWO_NODES, TWO_WORDS};
 use worm_core::{Act, Entry, Script};
 use worm_flit::Lane;
 use worm_text::{TextFault, Why};
-
-/// Two nodes, one class with two channels.
-const TWO_CHANNELS: &[u8] = b"wormnet 2\ndims 1\nradix 2\ndepth 2\nclass data channels 2\nend\n";
 
 /// How many entries the text has for a network, or its fault.
 fn counted(alloc: Global, network: &[u8], text: &[u8]) -> Result<Result<usize, TextFault>, Fail> {
@@ -220,8 +217,10 @@ fn ten_thousand(alloc: Global, last: &[u8]) -> Result<Vec<u8>, Fail> {
 fn ten_thousand_entries(rt: HostRuntime) -> Result<(), Fail> {
     let full = ten_thousand(rt.alloc(), b"end\n")?;
     is_accepted(&rt, rt.alloc(), full.as_slice(), 10_000)?;
-    let more = ten_thousand(rt.alloc(), b"send 5 x\n")?;
-    is_refused(&rt, rt.alloc(), more.as_slice(), 10_002, Why::TooMany)
+    let more = ten_thousand(rt.alloc(), b"send 0 0 1 data 1\nend\n")?;
+    is_refused(&rt, rt.alloc(), more.as_slice(), 10_002, Why::TooMany)?;
+    let faulty = ten_thousand(rt.alloc(), b"send 5 x\n")?;
+    is_refused(&rt, rt.alloc(), faulty.as_slice(), 10_002, Why::TooMany)
 }
 
 /// There was no room for one of the two entries, and the answer says so, at its line.
