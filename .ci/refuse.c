@@ -1,8 +1,9 @@
-/* Refuses one request of those that a program makes of the C library. Loaded ahead of that library (LD_PRELOAD).
+/* Refuses one request of those that a program makes of the C library, or two. Loaded ahead of that library (LD_PRELOAD).
 
    REFUSE says of which kind it is: memory, read, write or thread, or short_read or short_write, where the call is not
    refused but moves one byte at most. REFUSE_NUMBER says which of its kind, counted from 1. Once it has come, a byte
-   is written to the file descriptor of number REFUSE_TELL. */
+   is written to the file descriptor of number REFUSE_TELL. REFUSE_TOO, where it is not 0, is the number of another
+   one before it that is refused, too. */
 #define _GNU_SOURCE
 #include <dlfcn.h>
 #include <errno.h>
@@ -17,24 +18,28 @@ extern void *__libc_malloc(size_t);
 extern void *__libc_realloc(void *, size_t);
 
 static const char *kind = "";
-static long number, seen;
+static long number, too, seen;
 static int tell;
 
 __attribute__((constructor)) static void begin(void) {
     const char *asked = getenv("REFUSE"), *which = getenv("REFUSE_NUMBER"), *where = getenv("REFUSE_TELL");
-    if (asked && which && where) {
+    const char *other = getenv("REFUSE_TOO");
+    if (asked && which && where && other) {
         kind = asked;
         number = atol(which);
+        too = atol(other);
         tell = atoi(where);
     }
 }
 
-/* Whether this request, one of this kind, is the one. */
+/* Whether this request, one of this kind, is one of those. */
 static int is_it(const char *of) {
-    if (strcmp(kind, of) || __atomic_add_fetch(&seen, 1, __ATOMIC_SEQ_CST) != number)
+    if (strcmp(kind, of))
         return 0;
-    syscall(SYS_write, tell, "x", 1);
-    return 1;
+    long now = __atomic_add_fetch(&seen, 1, __ATOMIC_SEQ_CST);
+    if (now == number)
+        syscall(SYS_write, tell, "x", 1);
+    return now == number || now == too;
 }
 
 void *malloc(size_t size) {
