@@ -9,6 +9,8 @@ pub enum Seen {
     Whole,
     /// A call said that there was no memory, and left what it promises then.
     Refused,
+    /// A worker said so of one of its turns, and the others went on.
+    Stopped,
     /// An answer, or what a call left, was another.
     Wrong,
 }
@@ -19,6 +21,7 @@ impl Seen {
         match self {
             Seen::Whole => "whole",
             Seen::Refused => "refused",
+            Seen::Stopped => "stopped",
             Seen::Wrong => "wrong",
         }
     }
@@ -39,6 +42,7 @@ impl Seen {
     pub fn and(self, other: Seen) -> Seen {
         match (self, other) {
             (Seen::Wrong, _) | (_, Seen::Wrong) => Seen::Wrong,
+            (Seen::Stopped, _) | (_, Seen::Stopped) => Seen::Stopped,
             (Seen::Refused, _) | (_, Seen::Refused) => Seen::Refused,
             (Seen::Whole, Seen::Whole) => Seen::Whole,
         }

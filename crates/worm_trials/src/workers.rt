@@ -9,6 +9,7 @@ use std::alloc::Global;
 use std::sync::Wait;
 use std::thread::Threads;
 use worm_core::{LaneView, Net, Script};
+use worm_flit::Lane;
 use worm_run::{FreeGate, RunEnd, RunFault, RunPlan, Stop, StopWhy, run};
 
 const PLAN: RunPlan = RunPlan {
@@ -100,7 +101,11 @@ fn judge(alloc: Global, end: RunEnd) -> Seen {
         stops,
         ended,
     } = end;
-    let run = Seen::of(!stops.is_empty());
+    let run = if stops.is_empty() {
+        Seen::Whole
+    } else {
+        Seen::Stopped
+    };
     let well = ended_well(stops.as_slice(), ended.as_slice());
     let arrived = arrive(alloc, &mut net, stops.as_slice());
     run.and(arrived).only_if(well)
@@ -124,10 +129,30 @@ fn run_again<R: Threads + Wait + Sync>(rt: &R, alloc: Global, net: Net, script: 
     }
 }
 
-/// A network that came back as it was handed in has nothing offered, and is run once more.
+/// Nothing of the lane was delivered or is under way.
+fn see_empty(alloc: Global, net: &Net, lane: Lane) -> Seen {
+    match view(alloc, net, lane) {
+        Ok((view, seen)) => seen.only_if(view.delivered == 0 && view.underway.is_empty()),
+        Err(seen) => seen,
+    }
+}
+
+/// The same of each lane of sixteen nodes.
+fn all_empty(alloc: Global, net: &Net) -> Seen {
+    let mut seen = Seen::Whole.only_if(net.nodes() == 16);
+    for src in 0u8..16 {
+        for dst in 0u8..16 {
+            seen = seen.and(see_empty(alloc, net, lane(src, dst)));
+        }
+    }
+    seen
+}
+
+/// A network that came back as it was handed in has nothing offered and nothing in any lane, and is run once more.
 fn run_back<R: Threads + Wait + Sync>(rt: &R, alloc: Global, net: Net, script: &Script) -> Seen {
     let untouched = net.totals().accepted == 0;
-    run_again(rt, alloc, net, script).only_if(untouched)
+    let lanes = all_empty(alloc, &net).only_if(untouched);
+    run_again(rt, alloc, net, script).and(lanes)
 }
 
 /// What a run of the case shows. Where the parts found no memory they are run once more; where a thread could not be
