@@ -76,6 +76,7 @@ fn a_part_alone_fills_the_link(rt: HostRuntime) {
         (2, Place::Source),
         (3, Place::Source),
     ];
+    trial.has_words(1, &[]);
     trial.has_come(lane(0, 1), 0);
     trial.stands(lane(0, 1), &expected);
 }
@@ -89,6 +90,7 @@ fn the_other_part_takes_what_came(rt: HostRuntime) {
         vc: 0,
     };
     let expected = [(1, buffer), (2, Place::Source), (3, Place::Source)];
+    trial.has_words(1, &[1]);
     trial.has_come(lane(0, 1), 1);
     trial.stands(lane(0, 1), &expected);
     assert_eq!(rt; credits(trial), (1, Some(0)));

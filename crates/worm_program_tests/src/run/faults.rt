@@ -165,5 +165,5 @@ fn want_of_memory_in_a_turn(rt: HostRuntime) -> Result<(), Fail> {
     gives(&rt, &ran, Ok(()), STOPPED_RUN);
     let ran = report_stopped(&rt, rt.alloc(), Some(StepFault::NoMemory))?;
     gives(&rt, &ran, Err(ProgramFault::NoMemory), STOPPED_RUN);
-    Ok(())
+    is_fault(&rt, rt.alloc(), ran.answer, 6, "wormrun: out of memory")
 }
