@@ -1,6 +1,6 @@
 //! A node by itself: what passes between its source, its router and its sink.
 
-ghost use Rattle.std.specs.Prelude.{true, false, ◌≡◌, ◌<◌, Some, None};
+ghost use Rattle.std.specs.Prelude.{ℕ, true, false, ◌≡◌, ◌<◌, Some, None};
 ghost use Rattle.std.specs.Prelude.{if◌then◌else◌};
 ghost use Rattle.worm_router.specs.Router.{IsPlace, terminal, leaving};
 ghost use Rattle.worm_term.specs.Source.{classes, front_of};
@@ -96,17 +96,17 @@ impl Node {
         self.sink.make_room(flits.to as usize)
     }
 
-    /// Lets the flit that is ready at this place out into the sink, by the output port `out`, if the sink can take it.
-    pub fn deliver(&mut self, port: u8, vc: u8, out: u8, flit: Flit) -> bool
+    /// Lets the flit that is ready at this place out into the sink, if the sink can take it.
+    pub fn deliver(&mut self, port: u8, vc: u8, flit: Flit) -> bool
         requires place { IsPlace self.old.router port vc }
-        requires ready { leaving self.old.router port vc ≡ Some (out, flit) }
+        requires ready { (out : ℕ) × (leaving self.old.router port vc ≡ Some (out, flit)) }
         requires home { flit.lane.dst ≡ self.old.sink.node }
         ensures after { self.new ≡ (if result then delivered_node self.old port vc flit else self.old) }
     {
         if self.sink.take(flit).is_err() {
             return false;
         }
-        self.router.let_out(port, vc, out, flit);
+        self.router.sent(port, vc);
         true
     }
 }

@@ -131,8 +131,7 @@ impl Fabric {
         let Some(flit) = self.links.front_in(node, port) else {
             return false;
         };
-        // It is copied once, from the link into the buffer.
-        if !self.nodes.router_mut(node).accept_copy(port, flit) {
+        if self.nodes.router_mut(node).accept(port, *flit).is_err() {
             return false;
         }
         self.links.pop(node, port);
@@ -149,46 +148,33 @@ impl Fabric {
         self.nodes.router_mut(node).route(port, vc)
     }
 
-    /// Whether the flit that is ready at this place is at home. The buffer is asked: were the flit itself read in part,
-    /// the compiler would take it apart on its way to a link, too.
-    fn is_home(&self, node: u8, port: u8, vc: u8) -> bool
-        requires { IsNetPlace self.now node port vc }
-        ensures { IfSome (leaving (router_at self.now node) port vc) (λ out. result ≡ (out.1.lane.dst == node)) }
-    {
-        match self.node(node).router.buffer_at(port, vc, 0) {
-            Some(flit) => flit.lane.dst == node,
-            None => false,
-        }
-    }
-
-    /// Lets out the flit of a channel that may send, into the sink or onto the link of its port (Dally and Towles,
-    /// chapter 13). `NoMemory` where the sink cannot take it; idle where one for the terminal is not at home. The
-    /// router tells the terminal port, by which it tells what a flit costs, so that the compiler knows that one for a
-    /// link costs a credit.
+    /// Lets out the flit that is ready at this place, into the sink or onto the link of its port (Dally and Towles,
+    /// chapter 13). `NoMemory` where the sink cannot take it; idle where none is ready, or one for the terminal is not
+    /// at home. The router tells the terminal port, by which it tells what a flit costs, so that the compiler knows
+    /// that one for a link costs a credit.
     #[inline(always)]
-    pub(crate) fn send_next(&mut self, node: u8, port: u8, vc: u8) -> Result<Moved, StepFault>
+    pub(crate) fn send(&mut self, node: u8, port: u8, vc: u8) -> Result<Moved, StepFault>
         requires place { IsNetPlace self.old node port vc }
         requires terminal { terminal (router_at self.old node) ≡ 2 * length self.old.mesh }
-        requires ready { IsSome (leaving (router_at self.old node) port vc) }
         requires way { LeavesByLink self.old node (leaving (router_at self.old node) port vc) }
         requires sink { (sink_at self.old node).node ≡ node }
         ensures { Sends self.old node port vc (leaving (router_at self.old node) port vc) result self.new }
     {
         let router = self.nodes.router_mut(node);
         let terminal = router.terminal();
-        let (out, flit) = router.next_out(port, vc);
+        let Some((out, flit)) = router.ready(port, vc) else {
+            return Ok(Moved::Idle);
+        };
         if out == terminal {
-            if !self.is_home(node, port, vc) {
+            if flit.lane.dst != node {
                 return Ok(Moved::Idle);
             }
-            // It is read once more, so that the compiler keeps what goes over a link out of memory.
-            let (_, arrived) = self.node(node).router.next_out(port, vc);
-            if !self.nodes.deliver(node, port, vc, out, arrived) {
+            if !self.nodes.deliver(node, port, vc, flit) {
                 return Err(StepFault::NoMemory);
             }
             return Ok(Moved::Done);
         }
-        router.let_out(port, vc, out, flit);
+        router.sent(port, vc);
         self.links.push(node, out, flit);
         Ok(Moved::Done)
     }

@@ -211,20 +211,19 @@ impl Nodes {
         here.feed(class, port)
     }
 
-    /// Lets the flit that is ready at this place out into the node's sink, by the output port `out`, if the sink can
-    /// take it.
+    /// Lets the flit that is ready at this place out into the node's sink, if the sink can take it.
     #[inline(always)]
-    pub fn deliver(&mut self, node: u8, port: u8, vc: u8, out: u8, flit: Flit) -> bool
+    pub fn deliver(&mut self, node: u8, port: u8, vc: u8, flit: Flit) -> bool
         requires node { node < length self.old }
         requires place { IsPlace (nth_node self.old node).router port vc }
-        requires ready { leaving (nth_node self.old node).router port vc ≡ Some (out, flit) }
+        requires ready { (out : ℕ) × (leaving (nth_node self.old node).router port vc ≡ Some (out, flit)) }
         requires home { flit.lane.dst ≡ (nth_node self.old node).sink.node }
         ensures { self.new ≡ (if result then slice_set self.old node
             (delivered_node (nth_node self.old node) port vc flit) else self.old) }
     {
         self.resting[usize::from(node)] = false;
         let here = &mut self.list[usize::from(node)];
-        if !here.deliver(port, vc, out, flit) {
+        if !here.deliver(port, vc, flit) {
             return false;
         }
         self.under_way = one_fewer(self.under_way);

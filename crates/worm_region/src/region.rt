@@ -334,32 +334,18 @@ impl Region {
         self.send_there(node, port, vc)
     }
 
-    /// A Send where the place is there. What leaves over a link stays among the nodes that are owned.
-    fn send_there(&mut self, node: u8, port: u8, vc: u8) -> Result<Moved, StepFault>
-        requires there { IsThere (shape self.old) (Event.Send node port vc) }
-        requires within { IfSome (leaving (router_at self.old node) port vc)
-            (λ out. EndsWithin (shape self.old) (owned self.old) node out.0) }
-        ensures { Replies self.old (Event.Send node port vc) result self.new }
-    {
-        if !self.fabric.node(node).router.may_send(port, vc) {
-            return Ok(Moved::Idle);
-        }
-        self.send_next(node, port, vc)
-    }
-
-    /// The same of a channel that may send, as one that was granted the switch: `NoMemory`, with nothing changed, where
-    /// there is none for a delivered flit. No two hold one output channel, so what may leave any other channel of the
-    /// node may leave it still.
+    /// A Send where the place is there: idle where no flit is ready, `NoMemory`, with nothing changed, where there is
+    /// none for a delivered flit. What leaves over a link stays among the nodes that are owned. No two hold one output
+    /// channel, so what may leave any other channel of the node may leave it still.
     #[inline(always)]
-    pub fn send_next(&mut self, node: u8, port: u8, vc: u8) -> Result<Moved, StepFault>
+    pub fn send_there(&mut self, node: u8, port: u8, vc: u8) -> Result<Moved, StepFault>
         requires there { IsThere (shape self.old) (Event.Send node port vc) }
-        requires ready { IsSome (leaving (router_at self.old node) port vc) }
         requires within { IfSome (leaving (router_at self.old node) port vc)
             (λ out. EndsWithin (shape self.old) (owned self.old) node out.0) }
         ensures sent { Replies self.old (Event.Send node port vc) result self.new }
         ensures others { OthersMaySend self.old node port vc self.new }
     {
-        self.fabric.send_next(node, port, vc)
+        self.fabric.send(node, port, vc)
     }
 
     /// A Take: the front flit of the link into the port goes into its buffer.

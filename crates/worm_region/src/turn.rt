@@ -181,7 +181,7 @@ impl Region {
         self.recall();
         let mut left = granted;
         while let Some((port, vc)) = left.pop_first() {
-            tried(self.send_next(node, port, vc))?;
+            tried(self.send_there(node, port, vc))?;
         }
         Ok(())
     }

@@ -161,16 +161,16 @@ impl Router {
         ensures ok { OnOk result (self.new ≡ after_accept self.old port flit) }
         ensures err { IfErr result (λ f. (f ≡ flit) × (self.new ≡ self.old)) }
     {
-        if self.accept_copy(port, &flit) {
+        if self.put(port, &flit) {
             Ok(())
         } else {
             Err(flit)
         }
     }
 
-    /// The same for a caller that keeps the flit: a copy of it comes in, where the buffer has room.
+    /// A copy of the flit comes in, where the buffer has room.
     #[inline(always)]
-    pub fn accept_copy(&mut self, port: u8, flit: &Flit) -> bool
+    fn put(&mut self, port: u8, flit: &Flit) -> bool
         requires place { IsPlace self.old port flit.now.vc }
         requires node { flit.now.lane.dst < node_count self.old.mesh }
         ensures room { result ≡ nat_lt (length (input_at self.old port flit.now.vc).buffer) self.old.depth }
@@ -279,7 +279,7 @@ impl Router {
 
     /// Whether the channel may send now: it has a flit and holds an output channel that has a credit for it, and it may
     /// owe one more.
-    pub fn may_send(&self, port: u8, vc: u8) -> bool
+    fn may_send(&self, port: u8, vc: u8) -> bool
         requires { IsPlace self.now port vc }
         ensures { result ≡ is_some (leaving self.now port vc) }
     {
@@ -287,9 +287,8 @@ impl Router {
     }
 
     /// The output port and the flit of a channel that may send, as it would leave: on the channel that it was granted.
-    /// Whoever was granted the switch may send, and is not asked again.
     #[inline(always)]
-    pub fn next_out(&self, port: u8, vc: u8) -> (u8, Flit)
+    fn next_out(&self, port: u8, vc: u8) -> (u8, Flit)
         requires place { IsPlace self.now port vc }
         requires ready { IsSome (leaving self.now port vc) }
         ensures leaves { Some result ≡ leaving self.now port vc }
@@ -308,6 +307,7 @@ impl Router {
 
     /// The output port and the flit that may leave now, as it would leave: on the channel that it was granted, where
     /// there is a credit for it, and room for one more owed.
+    #[inline(always)]
     pub fn ready(&self, port: u8, vc: u8) -> Option<(u8, Flit)>
         requires { IsPlace self.now port vc }
         ensures leaves { result ≡ leaving self.now port vc }
@@ -321,6 +321,7 @@ impl Router {
 
     /// The flit that `ready` names has left. A credit is spent for it and one is owed; a closing flit frees both
     /// channels.
+    #[inline(always)]
     pub fn sent(&mut self, port: u8, vc: u8)
         requires place { IsPlace self.old port vc }
         requires ready { IsSome (leaving self.old port vc) }
@@ -330,9 +331,9 @@ impl Router {
         self.let_out(port, vc, out, flit);
     }
 
-    /// The same for a caller that holds what `ready` answered: the flit has left by the output port `out`.
+    /// The flit has left by the output port `out`.
     #[inline(always)]
-    pub fn let_out(&mut self, port: u8, vc: u8, out: u8, flit: Flit)
+    fn let_out(&mut self, port: u8, vc: u8, out: u8, flit: Flit)
         requires place { IsPlace self.old port vc }
         requires ready { leaving self.old port vc ≡ Some (out, flit) }
         ensures { self.new ≡ after_send self.old port vc }

@@ -117,7 +117,7 @@ fn room_and_rest_are_told(rt: HostRuntime) {
     trial.is_at_rest(false);
     trial.routes(0, 0);
     trial.allocates(&[]);
-    trial.lets_out(0, 0);
+    trial.sends(0, 0);
     trial.has_room(0, 0, true);
     trial.is_at_rest(false);
     trial.gives(0, 0);
@@ -134,7 +134,7 @@ fn a_freed_channel_is_granted_again(rt: HostRuntime) {
     trial.allocates(&[(0, 0, Some(0))]);
     trial.allocates(&[(2, 0, None)]);
     trial.allocates(&[(2, 0, None)]);
-    trial.lets_out(0, 0);
+    trial.sends(0, 0);
     trial.allocates(&[(2, 0, Some(0))]);
 }
 
@@ -146,7 +146,7 @@ fn a_credit_lets_a_flit_out(rt: HostRuntime) {
     trial.routes(2, 0);
     trial.allocates(&[]);
     trial.chooses(&[(2, sends(0, 1))]);
-    trial.lets_out(2, 0);
+    trial.sends(2, 0);
     trial.accepts(2, flit(1, 0));
     trial.routes(2, 0);
     trial.allocates(&[]);
@@ -164,7 +164,7 @@ fn a_credit_given_lets_a_flit_out(rt: HostRuntime) {
     trial.accepts(0, flit(0, 0));
     trial.routes(0, 0);
     trial.allocates(&[]);
-    trial.lets_out(0, 0);
+    trial.sends(0, 0);
     trial.accepts(0, flit(1, 0));
     trial.routes(0, 0);
     trial.allocates(&[]);

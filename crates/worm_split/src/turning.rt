@@ -170,7 +170,7 @@ impl Part {
         self.region.recall();
         let links = self.region.links_beyond(node, out);
         if push_flit(rt, &mut self.ends[usize::from(links.out)], flit) {
-            self.region.let_out(node, port, vc, out, flit);
+            self.region.sent(node, port, vc, out, flit);
         }
     }
 
@@ -185,7 +185,7 @@ impl Part {
         ensures same { IsSamePart self.old self.new }
     {
         self.region.recall();
-        tried(self.region.send_next(node, port, vc))
+        tried(self.region.send_there(node, port, vc))
     }
 
     /// Whether the link out of the port leads to another worker's node.
@@ -218,11 +218,12 @@ impl Part {
         ensures same { IsSamePart self.old self.new }
     {
         self.wake(node);
-        // Of what stays within the part no more than its port is read before it is sent.
-        if !self.leaves(node, self.region.port_out(node, port, vc)) {
+        let Some((out, flit)) = self.region.ready(node, port, vc) else {
+            unreachable!()
+        };
+        if !self.leaves(node, out) {
             return self.send_within(node, port, vc);
         }
-        let (out, flit) = self.region.next_out(node, port, vc);
         self.send_across(rt, node, port, vc, out, flit);
         Ok(())
     }

@@ -15,7 +15,7 @@ use super::Region;
 use worm_flit::Flit;
 
 impl Region {
-    /// The node is not known to rest any more. A send marks it so; where that is done before `next_out`, a send that
+    /// The node is not known to rest any more. A send marks it so; where that is done before `ready`, a send that
     /// follows finds it done, and need not read the router anew.
     #[inline(always)]
     pub fn wake(&mut self, node: u8)
@@ -24,37 +24,25 @@ impl Region {
         self.fabric.nodes.wake(node);
     }
 
-    /// By which port the front flit of a channel that may send leaves, and as which flit. Whoever was granted the
-    /// switch may send, and is not asked again.
+    /// By which port the front flit of a channel may leave now, and as which flit.
     #[inline(always)]
-    pub fn next_out(&self, node: u8, port: u8, vc: u8) -> (u8, Flit)
-        requires there { IsThere (shape self.now) (Event.Send node port vc) }
-        requires ready { IsSome (leaving (router_at self.now node) port vc) }
-        ensures { Some result ≡ leaving (router_at self.now node) port vc }
+    pub fn ready(&self, node: u8, port: u8, vc: u8) -> Option<(u8, Flit)>
+        requires { IsThere (shape self.now) (Event.Send node port vc) }
+        ensures { result ≡ leaving (router_at self.now node) port vc }
     {
-        self.fabric.node(node).router.next_out(port, vc)
+        self.fabric.node(node).router.ready(port, vc)
     }
 
-    /// By which port that flit leaves, where no more is asked of it.
-    #[inline(always)]
-    pub fn port_out(&self, node: u8, port: u8, vc: u8) -> u8
-        requires there { IsThere (shape self.now) (Event.Send node port vc) }
-        requires ready { IsSome (leaving (router_at self.now node) port vc) }
-        ensures { IfSome (leaving (router_at self.now node) port vc) (λ way. result ≡ way.0) }
-    {
-        self.fabric.node(node).router.port_out(port, vc)
-    }
-
-    /// The ready flit leaves the node by the output port `out`, over a link to another worker's node: a Send but for
-    /// the link. What may leave any other channel of the node may leave it still.
-    pub fn let_out(&mut self, node: u8, port: u8, vc: u8, out: u8, flit: Flit)
+    /// The ready flit left the node by the output port `out`, over a link to another worker's node: a Send but for the
+    /// link. What may leave any other channel of the node may leave it still.
+    pub fn sent(&mut self, node: u8, port: u8, vc: u8, out: u8, flit: Flit)
         requires there { IsThere (shape self.old) (Event.Send node port vc) }
         requires ready { leaving (router_at self.old node) port vc ≡ Some (out, flit) }
         requires crosses { EndsElsewhere (shape self.old) (owned self.old) node out }
         ensures left { LetsOut self.old node port vc self.new }
         ensures others { OthersMaySend self.old node port vc self.new }
     {
-        self.fabric.router_mut(node).let_out(port, vc, out, flit);
+        self.fabric.router_mut(node).sent(port, vc);
     }
 
     /// The input channel owes one credit less, which goes back to another worker's node: a GiveCredit but for the

@@ -65,19 +65,6 @@ impl Router {
         channel.state()
     }
 
-    /// The output port by which the front flit of a channel that may send leaves.
-    #[inline(always)]
-    pub fn port_out(&self, port: u8, vc: u8) -> u8
-        requires place { IsPlace self.now port vc }
-        requires ready { IsSome (leaving self.now port vc) }
-        ensures { IfSome (leaving self.now port vc) (λ way. result ≡ way.0) }
-    {
-        let InRecord::Active { out, out_vc: _ } = self.in_record(port, vc) else {
-            unreachable!()
-        };
-        out
-    }
-
     /// Who holds the output channel, and how many credits it has.
     pub fn out_record(&self, port: u8, vc: u8) -> OutRecord
         requires { IsPlace self.now port vc }

@@ -115,7 +115,6 @@ impl<R: Abort + AllocGlobal + Copy> Trial<R> {
     pub fn is_ready(&self, port: u8, vc: u8, out: u8, flit: Flit) {
         assert!(self.rt; port < 3 && vc < self.width);
         assert_eq!(self.rt; self.router.ready(port, vc), Some((out, flit)));
-        assert_eq!(self.rt; self.router.port_out(port, vc), out);
     }
 
     /// The channel's front leaves.
@@ -123,14 +122,6 @@ impl<R: Abort + AllocGlobal + Copy> Trial<R> {
         assert!(self.rt; port < 3 && vc < self.width);
         assert!(self.rt; self.router.ready(port, vc).is_some());
         self.router.sent(port, vc);
-    }
-
-    /// The channel's front leaves, by a caller that holds what is ready.
-    pub fn lets_out(&mut self, port: u8, vc: u8) {
-        assert!(self.rt; port < 3 && vc < self.width);
-        let ready = self.router.ready(port, vc);
-        let (out, flit) = ready.expect(&self.rt, "a flit that may leave");
-        self.router.let_out(port, vc, out, flit);
     }
 
     /// The flit that left the channel last, as it left; none before any has.

@@ -20,8 +20,8 @@ loop-port-init c = (
       (does_nothing c.args.self.now),
 )
 
-pub send_next-requires-clause-there : goal.send_next-requires-clause-there
-send_next-requires-clause-there c =
+pub send_there-requires-clause-there : goal.send_there-requires-clause-there
+send_there-requires-clause-there c =
     let some = c.requires.granted in
     let sent = c.loop-port.invariant.1 some.0 some.1 in
     let first = c.in-Some.ensures in
@@ -29,31 +29,31 @@ send_next-requires-clause-there c =
     sent.walked.done.reaches.config
     (c.requires.there c.in-Some.port c.in-Some.vc first.port_in first.channel_in (was_granted some.0 some.1 sent first))
 
-pub send_next-requires-clause-within : goal.send_next-requires-clause-within
-send_next-requires-clause-within c =
+pub send_there-requires-clause-within : goal.send_there-requires-clause-within
+send_there-requires-clause-within c =
     let sent = c.loop-port.invariant.1 c.requires.granted.0 c.requires.granted.1 in
     sends_within c.loop-port.self c.args.node c.in-Some.port c.in-Some.vc
     (whole_after c.args.self.now c.loop-port.self sent.walked.done.reaches.config c.requires.whole)
 
 pub loop-port-preserved : goal.loop-port-preserved
 loop-port-preserved c = (
-  left_ready c.loop-port.self c.send_next.new.self c.args.node c.loop-port.left c.pop_first.new.self c.in-Some.port
-      c.in-Some.vc c.loop-port.invariant.0 c.in-Some.ensures c.send_next.ensures.others,
+  left_ready c.loop-port.self c.send_there.new.self c.args.node c.loop-port.left c.pop_first.new.self c.in-Some.port
+      c.in-Some.vc c.loop-port.invariant.0 c.in-Some.ensures c.send_there.ensures.others,
   λ grants are.
       let sent = c.loop-port.invariant.1 grants are in
       let first = c.in-Some.ensures in
       let x = c.args.node in
       let a = c.args.self.now in
       let b = c.loop-port.self in
-      let answered = sent_by x grants c.in-Some.port c.in-Some.vc b c.send_next.new.self c.send_next.result None
-      (sent_grant grants are sent first) c.send_next.ensures.sent c.in_ok-tried.ensures in
+      let answered = sent_by x grants c.in-Some.port c.in-Some.vc b c.send_there.new.self c.send_there.result None
+      (sent_grant grants are sent first) c.send_there.ensures.sent c.in_ok-tried.ensures in
       sent_more grants are sent (sent_still x grants a b) first
-      (λ before. loop_more (λ p. Each Attempts (granted_send grants x p)) c.in-Some.port a b c.send_next.new.self None
+      (λ before. loop_more (λ p. Each Attempts (granted_send grants x p)) c.in-Some.port a b c.send_there.new.self None
       before answered),
 )
 
-pub send_next-requires-clause-ready : goal.send_next-requires-clause-ready
-send_next-requires-clause-ready c =
+pub send_there-requires-clause-ready : goal.send_there-requires-clause-ready
+send_there-requires-clause-ready c =
     let first = c.in-Some.ensures in
     (c.loop-port.invariant.0 c.in-Some.port c.in-Some.vc first.port_in first.channel_in first.was_in).leaves
 
@@ -65,12 +65,12 @@ returns-in_err-tried c = λ grants are.
     let a = c.args.self.now in
     let b = c.loop-port.self in
     let fault = c.in_err-tried.field-0.0 in
-    let answered = sent_by x grants c.in-Some.port c.in-Some.vc b c.send_next.new.self c.send_next.result (Some fault)
-    (sent_grant grants are sent first) c.send_next.ensures.sent c.in_err-tried.ensures in
+    let answered = sent_by x grants c.in-Some.port c.in-Some.vc b c.send_there.new.self c.send_there.result (Some fault)
+    (sent_grant grants are sent first) c.send_there.ensures.sent c.in_err-tried.ensures in
     let p = err_from_is_err_and c.from_residual.result c.from_residual.ensures.1 in
-    rw (p.1, p.2) (sends_all grants x a c.send_next.new.self (Some fault)
+    rw (p.1, p.2) (sends_all grants x a c.send_there.new.self (Some fault)
     (loop_cut (λ p. Each Attempts (granted_send grants x p)) c.in-Some.port (2 * length a.mesh + 1) a b
-    c.send_next.new.self fault (sent_place grants are sent first).1
+    c.send_there.new.self fault (sent_place grants are sent first).1
     (sent_to grants are sent (sent_still x grants a b) first) answered))
 
 pub returns : goal.returns

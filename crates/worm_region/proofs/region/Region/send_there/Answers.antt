@@ -1,42 +1,44 @@
-use Rattle.std.proofs.Common.{◌≡◌, ◌∙◌, Ok, ap, is_some, refl, subst, sym}
-use Rattle.worm_router.specs.Router.{IsPlace, leaving}
-use Rattle.worm_node.specs.declared.node.Node.{Node}
-use Rattle.worm_region.specs.State.{NetState, router_at}
+use Rattle.std.proofs.Common.{subst}
+use Rattle.worm_region.specs.Replies.{Replies}
 use Rattle.worm_region.specs.Workable.{IsWorkable}
-use Rattle.worm_region.specs.declared.step.Moved.TheVariants.{Idle}
-use Rattle.worm_region.proofs.PlacesThere.{place_inside}
-use Rattle.worm_region.proofs.SendTried.{is_tried, none_sent}
+use Rattle.worm_region.proofs.OthersReady.{others_ready}
+use Rattle.worm_region.proofs.SendTried.{IsTried, is_tried}
+use Rattle.worm_theory.specs.Steps.{Send}
 use Rattle.worm_region.proofs.region.Region.send_there.Goals as goal
-use Rattle.worm_region.proofs.region.Region.send_there.Goals.{After-may_send}
+use Rattle.worm_region.proofs.region.Region.send_there.Goals.{After-self}
 
-pub node-requires : goal.node-requires
-node-requires c =
-    (place_inside _ c.args.self.now c.args.node c.args.port c.args.vc c.self.view_is c.self.invariant.framed
-    c.requires.there).node_in
+tried : (c : goal.After-self) → IsTried c.self.inside.fabric c.args.self.now c.args.node c.args.port c.args.vc
+tried c =
+    is_tried c.self.inside.fabric c.args.self.now c.args.node c.args.port c.args.vc c.self.view_is c.self.invariant
+    c.requires.there c.requires.within
 
-pub may_send-requires : goal.may_send-requires
-may_send-requires c = subst (λ (n : Node). IsPlace n.router c.args.port c.args.vc) (sym c.node.ensures)
-    (place_inside _ c.args.self.now c.args.node c.args.port c.args.vc c.self.view_is c.self.invariant.framed
-    c.requires.there).place
+pub send-requires-clause-place : goal.send-requires-clause-place
+send-requires-clause-place c = (tried (goal.at.send-requires-clause-place c).After-self).place
 
--- whether a flit may leave, of the lists as they are seen
-may : (c : After-may_send)
-    → c.may_send.result ≡ is_some (leaving (router_at c.args.self.now c.args.node) c.args.port c.args.vc)
-may c =
-    c.may_send.ensures
-    ∙ ap (λ (n : Node). is_some (leaving n.router c.args.port c.args.vc)) c.node.ensures
-    ∙ ap (λ (s : NetState). is_some (leaving (router_at s c.args.node) c.args.port c.args.vc)) c.self.view_is
+pub send-requires-clause-terminal : goal.send-requires-clause-terminal
+send-requires-clause-terminal c = (tried (goal.at.send-requires-clause-terminal c).After-self).terminal
 
-pub returns-then-not-may_send : goal.returns-then-not-may_send
-returns-then-not-may_send c =
-    let s = c.args.self.now in
-    let x = c.args.node in
-    let none = sym (may (goal.at.returns-then-not-may_send c).After-may_send) ∙ c.if-not-may_send.true in
-    let tried = is_tried s s x c.args.port c.args.vc refl (subst IsWorkable c.self.view_is c.self.invariant)
-    c.requires.there c.requires.within in
-    (tried.answers (Ok Idle) s (none_sent s x c.args.port c.args.vc (leaving (router_at s x) c.args.port c.args.vc)
-    none)).1
+pub send-requires-clause-way : goal.send-requires-clause-way
+send-requires-clause-way c = (tried (goal.at.send-requires-clause-way c).After-self).way
 
-pub send_next-requires-clause-ready : goal.send_next-requires-clause-ready
-send_next-requires-clause-ready c =
-    sym (may (goal.at.send_next-requires-clause-ready c).After-may_send) ∙ c.if-not-may_send.false
+pub send-requires-clause-sink : goal.send-requires-clause-sink
+send-requires-clause-sink c = (tried (goal.at.send-requires-clause-sink c).After-self).sink
+
+-- what it leaves, and what its answer means
+answered : (c : goal.After-send)
+    → IsWorkable c.send.new.self
+    × Replies c.args.self.now (Send c.args.node c.args.port c.args.vc) c.send.result c.send.new.self
+answered c =
+    (tried (goal.at.returns-clause-sent c).After-self).answers c.send.result c.send.new.self
+    c.send.ensures
+
+pub invariant_of-self : goal.invariant_of-self
+invariant_of-self c = (answered c).0
+
+pub returns-clause-sent : goal.returns-clause-sent
+returns-clause-sent c = (answered c).1
+
+pub returns-clause-others : goal.returns-clause-others
+returns-clause-others c =
+    others_ready c.args.self.now c.send.new.self c.args.node c.args.port c.args.vc c.send.result
+    (subst IsWorkable c.self.view_is c.self.invariant) (answered c).1

@@ -37,27 +37,27 @@ going g c =
 pub push_flit-requires : goal.push_flit-requires
 push_flit-requires g c = may_go (going g (goal.at.push_flit-requires g c).After-index_mut)
 
-pub let_out-requires-clause-crosses : goal.let_out-requires-clause-crosses
-let_out-requires-clause-crosses g c =
-    ends_elsewhere (going g (goal.at.let_out-requires-clause-crosses g c).After-index_mut)
+pub sent-requires-clause-crosses : goal.sent-requires-clause-crosses
+sent-requires-clause-crosses g c =
+    ends_elsewhere (going g (goal.at.sent-requires-clause-crosses g c).After-index_mut)
 
 pub invariant_of-self : goal.invariant_of-self
 invariant_of-self g c =
     let i = c.self.inside in
     let landed = went (going g (goal.at.invariant_of-self g c).After-index_mut) c.push_flit.new.end
-    c.let_out.new.self c.if-push_flit.ensures c.let_out.ensures.left in
+    c.sent.new.self c.if-push_flit.ensures c.sent.ensures.left in
     (landed.0, subst (λ (w : Own). IsKept i.opening.value w i.kept) (sym landed.2.config.own) c.self.invariant.1)
 
 pub returns-then-push_flit-clause-sends : goal.returns-then-push_flit-clause-sends
 returns-then-push_flit-clause-sends g c =
     let landed = went (going g (goal.at.returns-then-push_flit-clause-sends g c).After-index_mut) c.push_flit.new.end
-    c.let_out.new.self c.if-push_flit.ensures c.let_out.ensures.left in
+    c.sent.new.self c.if-push_flit.ensures c.sent.ensures.left in
     rw (← c.self.view_is) landed.1
 
 pub returns-then-push_flit-clause-others : goal.returns-then-push_flit-clause-others
 returns-then-push_flit-clause-others g c =
-    subst (λ (q : PartState). OthersMaySend q.net c.args.node c.args.port c.args.vc c.let_out.new.self) c.self.view_is
-    c.let_out.ensures.others
+    subst (λ (q : PartState). OthersMaySend q.net c.args.node c.args.port c.args.vc c.sent.new.self) c.self.view_is
+    c.sent.ensures.others
 
 -- where the push came back
 

@@ -1,4 +1,4 @@
-use Rattle.std.proofs.Common.{◌≡◌, ◌∙◌, Some, ap, refl, subst, sym}
+use Rattle.std.proofs.Common.{◌≡◌, ◌∙◌, IsSome, Some, ap, refl, subst, sym}
 use Rattle.worm_router.specs.Router.{RouterState, after_send, leaving}
 use Rattle.worm_region.specs.Edges.{LetsOut}
 use Rattle.worm_region.specs.State.{IsNetPlace, NetState, router_at, shape, with_router}
@@ -7,21 +7,21 @@ use Rattle.worm_region.proofs.OthersReady.{out_ready}
 use Rattle.worm_region.proofs.OwnEdges.{all_elsewhere}
 use Rattle.worm_region.proofs.EdgeMoves.{left_by}
 use Rattle.worm_region.proofs.PlacesThere.{place_inside}
-use Rattle.worm_region.proofs.region.Region.let_out.Goals as goal
-use Rattle.worm_region.proofs.region.Region.let_out.Goals.{After-let_out, After-self}
+use Rattle.worm_region.proofs.region.Region.sent.Goals as goal
+use Rattle.worm_region.proofs.region.Region.sent.Goals.{After-sent, After-self}
 
 -- the region's lists after it
-left : (c : goal.After-let_out) → IsWorkable (with_router c.self.inside.fabric c.args.node c.let_out.new.self)
+left : (c : goal.After-sent) → IsWorkable (with_router c.self.inside.fabric c.args.node c.sent.new.self)
     × LetsOut c.args.self.now c.args.node c.args.port c.args.vc
-    (with_router c.self.inside.fabric c.args.node c.let_out.new.self)
+    (with_router c.self.inside.fabric c.args.node c.sent.new.self)
 left c =
     let s = c.self.inside.fabric in
     let x = c.args.node in
     let crosses = all_elsewhere (shape s) (owned s) x c.args.out (rw c.self.view_is c.requires.crosses) in
     let after =
-    c.let_out.ensures ∙ ap (λ (r : RouterState). after_send r c.args.port c.args.vc) c.router_mut.ensures.value in
-    subst (λ (t : NetState). IsWorkable (with_router s x c.let_out.new.self)
-    × LetsOut t x c.args.port c.args.vc (with_router s x c.let_out.new.self)) c.self.view_is
+    c.sent.ensures ∙ ap (λ (r : RouterState). after_send r c.args.port c.args.vc) c.router_mut.ensures.value in
+    subst (λ (t : NetState). IsWorkable (with_router s x c.sent.new.self)
+    × LetsOut t x c.args.port c.args.vc (with_router s x c.sent.new.self)) c.self.view_is
     (subst (λ (r : RouterState). IsWorkable (with_router s x r) × LetsOut s x c.args.port c.args.vc (with_router s x r))
     (sym after) (left_by s x c.args.port c.args.vc c.args.out c.args.flit c.self.invariant crosses
     (rw c.self.view_is c.requires.there) (rw c.self.view_is c.requires.ready)))
@@ -34,22 +34,21 @@ place c =
 pub router_mut-requires : goal.router_mut-requires
 router_mut-requires c = (place (goal.at.router_mut-requires c).After-self).node_in
 
-pub let_out-requires-clause-place : goal.let_out-requires-clause-place
-let_out-requires-clause-place c =
-    rw c.router_mut.ensures.value (place (goal.at.let_out-requires-clause-place c).After-self).place
+pub sent-requires-clause-place : goal.sent-requires-clause-place
+sent-requires-clause-place c =
+    rw c.router_mut.ensures.value (place (goal.at.sent-requires-clause-place c).After-self).place
 
-pub let_out-requires-clause-ready : goal.let_out-requires-clause-ready
-let_out-requires-clause-ready c =
-    subst (λ (r : RouterState). leaving r c.args.port c.args.vc ≡ Some (c.args.out, c.args.flit))
-    (sym c.router_mut.ensures.value)
-    (subst (λ (s : NetState). leaving (router_at s c.args.node) c.args.port c.args.vc ≡ Some (c.args.out, c.args.flit))
-    (sym c.self.view_is) c.requires.ready)
+pub sent-requires-clause-ready : goal.sent-requires-clause-ready
+sent-requires-clause-ready c =
+    subst (λ (r : RouterState). IsSome (leaving r c.args.port c.args.vc)) (sym c.router_mut.ensures.value)
+    (subst (λ (s : NetState). IsSome (leaving (router_at s c.args.node) c.args.port c.args.vc)) (sym c.self.view_is)
+    (rw c.requires.ready refl))
 
 pub invariant_of-self : goal.invariant_of-self
-invariant_of-self c = (left (goal.at.invariant_of-self c).After-let_out).0
+invariant_of-self c = (left (goal.at.invariant_of-self c).After-sent).0
 
 pub returns-clause-left : goal.returns-clause-left
-returns-clause-left c = (left (goal.at.returns-clause-left c).After-let_out).1
+returns-clause-left c = (left (goal.at.returns-clause-left c).After-sent).1
 
 pub returns-clause-others : goal.returns-clause-others
 returns-clause-others c =
@@ -59,4 +58,4 @@ returns-clause-others c =
     λ p v away ready.
     out_ready s _ c.args.node c.args.port c.args.vc p v (c.args.out, c.args.flit)
     (subst IsWorkable c.self.view_is c.self.invariant) here away c.requires.ready
-    (left (goal.at.returns-clause-others c).After-let_out).1.exact ready
+    (left (goal.at.returns-clause-others c).After-sent).1.exact ready
