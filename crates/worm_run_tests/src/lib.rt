@@ -18,8 +18,6 @@ mod runs;
 #[cfg(test)]
 mod stops;
 #[cfg(test)]
-mod threads;
-#[cfg(test)]
 mod trial;
 #[cfg(test)]
 mod turns;

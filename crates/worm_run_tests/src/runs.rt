@@ -16,7 +16,7 @@ fn all_arrived<R: Abort + AllocGlobal + Copy>(trial: &Trial<R>, last: u8) -> boo
 }
 
 /// What each node up to the last sent to the node opposite is on its way or there, in order.
-pub fn all_on_the_way<R: Abort + AllocGlobal + Copy>(trial: &Trial<R>, last: u8) -> bool {
+fn all_on_the_way<R: Abort + AllocGlobal + Copy>(trial: &Trial<R>, last: u8) -> bool {
     for src in 0..=last {
         if trial.words_to(src, last - src).as_slice() != words_of(src).as_slice() {
             return false;
