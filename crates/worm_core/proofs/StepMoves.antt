@@ -33,8 +33,8 @@ done_moves a b step net d lane c there alone =
     alone net.sound d.there d.enabled) in
     subst (λ (m : Machine Flit). MovesOne (shape a) (network_of a) step lane (machine_in a lane c) m) same moved
 
-pub moves_one_lane : (a b : NetState) (step : Step) (answer : Result Moved StepFault) → IsNet a → Answers a step answer b
-    → MovesOneLane a step answer b
+pub moves_one_lane : (a b : NetState) (step : Step) (answer : Result Moved StepFault) → IsNet a
+    → Answers a step answer b → MovesOneLane a step answer b
 moves_one_lane a b step (Ok Done) net d = done_moves a b step net d
 moves_one_lane a b step (Ok Idle) net i = i.3
 moves_one_lane a b step (Err NoSuchPlace) net i = i.1

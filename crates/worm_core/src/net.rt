@@ -171,10 +171,10 @@ impl Net {
     }
 
     /// One step (Dally and Towles, chapters 13 and 16): at most one move of one lane. `Done` where it was enabled,
-    /// `Idle` where its place is there and it was not, which no Offer or Close is answered. `NoSuchPlace` where the network has not its node, port, channel or class, or its port has not
-    /// the link that it needs; `Refused` where a source refuses a packet or a mark, also for its lane's nodes or class;
-    /// `NoMemory` where it was enabled and there is none for an accepted or a delivered flit. With these, and with
-    /// `Idle`, nothing changed.
+    /// `Idle` where its place is there and it was not, which no Offer or Close is answered. `NoSuchPlace` where the
+    /// network has not its node, port, channel or class, or its port has not the link that it needs; `Refused` where a
+    /// source refuses a packet or a mark, also for its lane's nodes or class; `NoMemory` where it was enabled and there
+    /// is none for an accepted or a delivered flit. With these, and with `Idle`, nothing changed.
     pub fn step(&mut self, step: &Step) -> Result<Moved, StepFault>
         ensures answers { Answers self.old (event_of step.now) result self.new }
         ensures asked { AsksSource (event_of step.now) → result ≡ Ok Idle → ⊥ }

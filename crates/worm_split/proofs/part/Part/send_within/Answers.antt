@@ -36,5 +36,5 @@ invariant_of-self c =
 
 pub returns-clause-others : goal.returns-clause-others
 returns-clause-others c =
-    subst (λ (q : PartState). OthersMaySend q.net c.args.node c.args.port c.args.vc c.send_there.new.self) c.self.view_is
-    c.send_there.ensures.others
+    subst (λ (q : PartState). OthersMaySend q.net c.args.node c.args.port c.args.vc c.send_there.new.self)
+    c.self.view_is c.send_there.ensures.others
