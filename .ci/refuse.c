@@ -1,9 +1,10 @@
-/* Refuses one request of those that a program makes of the C library, or two. Loaded ahead of that library (LD_PRELOAD).
+/* Refuses one request of those that a program makes of the C library, or two. Loaded ahead of that library
+   (LD_PRELOAD).
 
    REFUSE says of which kind it is: memory, read, write or thread, or short_read or short_write, where the call is not
    refused but moves one byte at most. REFUSE_NUMBER says which of its kind, counted from 1. Once it has come, a byte
-   is written to the file descriptor of number REFUSE_TELL. REFUSE_TOO, where it is not 0, is the number of another
-   one before it that is refused, too. */
+   is written to the file descriptor of number REFUSE_TELL. REFUSE_TOO, where it is not 0, is the number of one before
+   it that is refused, too. */
 #define _GNU_SOURCE
 #include <dlfcn.h>
 #include <errno.h>
