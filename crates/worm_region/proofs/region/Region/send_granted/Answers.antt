@@ -52,11 +52,6 @@ loop-port-preserved c = (
       before answered),
 )
 
-pub send_there-requires-clause-ready : goal.send_there-requires-clause-ready
-send_there-requires-clause-ready c =
-    let first = c.in-Some.ensures in
-    (c.loop-port.invariant.0 c.in-Some.port c.in-Some.vc first.port_in first.channel_in first.was_in).leaves
-
 pub returns-in_err-tried : goal.returns-in_err-tried
 returns-in_err-tried c = λ grants are.
     let sent = c.loop-port.invariant.1 grants are in
