@@ -1,5 +1,4 @@
-use Rattle.std.proofs.Common.{◌≡◌, ℕ, Option, Some, None, inr, sym, subst}
-use Rattle.std.specs.Prelude.{IfSome}
+use Rattle.std.proofs.Common.{◌≡◌, ◌∙◌, ℕ, Option, Some, inr, sym, subst}
 use Rattle.worm_flit.specs.declared.Flit.{Flit}
 use Rattle.worm_router.specs.Router.{leaving}
 use Rattle.worm_region.specs.State.{router_at}
@@ -10,17 +9,16 @@ use Rattle.worm_split.proofs.part.Part.send.Goals.{After-send_within-arg-1}
 use Rattle.worm_split.proofs.part.Part.send.Given as given
 
 -- what leaves by a port that leads to no other worker stays within the part
-stays_by : (p : PartState) (x out : ℕ) (way : Option (ℕ × Flit)) → IfSome way (λ (w : ℕ × Flit). out ≡ w.0)
+stays_by : (p : PartState) (x out : ℕ) (flit : Flit) (way : Option (ℕ × Flit)) → way ≡ Some (out, flit)
     → (LeavesBy p x out → ⊥) → StaysWithin p x way
-stays_by p x out None by none = tt
-stays_by p x out (Some w) by none = λ leaves. none (subst (λ (o : ℕ). LeavesBy p x o) (sym by) leaves)
+stays_by p x out flit way at none = subst (λ (w : Option (ℕ × Flit)). StaysWithin p x w) (sym at) none
 
 stays : (g : given.Over) (c : After-send_within-arg-1 g) → let p : PartState = c.wake.new.self in
     StaysWithin p c.args.node (leaving (router_at p.net c.args.node) c.args.port c.args.vc)
 stays g c =
-    let way = subst (λ (q : PartState). IfSome (leaving (router_at q.net c.args.node) c.args.port c.args.vc)
-    (λ (w : ℕ × Flit). c.port_out.result ≡ w.0)) c.self.view_is c.port_out.ensures in
-    stays_by c.wake.new.self c.args.node c.port_out.result _ way
+    let at = subst (λ (q : PartState). leaving (router_at q.net c.args.node) c.args.port c.args.vc
+        ≡ Some (c.in-Some.out, c.in-Some.flit)) c.self.view_is (sym c.ready.ensures ∙ c.in-Some.is) in
+    stays_by c.wake.new.self c.args.node c.in-Some.out c.in-Some.flit _ at
     (λ leaves. let led = c.leaves.ensures.1 leaves in let not = c.if-not-leaves.true in absurd (cc))
 
 pub send_within-requires-clause-stays : goal.send_within-requires-clause-stays
