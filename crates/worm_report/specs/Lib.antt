@@ -1,4 +1,5 @@
 pub mod Rows
 pub mod Seen
 pub mod Report
+pub mod Sums
 pub mod Writing

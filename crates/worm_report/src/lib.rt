@@ -5,14 +5,15 @@
 //! `specs/Rows` has the text of each, and the code makes the same rows one after another: so what it proves of the
 //! whole is what it proves of a list.
 //!
-//! A writer may fail, and memory may run out: then a first part of the text has gone out, and the answer says so. That
-//! `Write` comes only from a writer that failed or took nothing no contract can say, since a writer says nothing of its
-//! failures; tests show it.
+//! A writer may fail, and memory may run out: then a first part of the text has gone out, and the answer says so;
+//! `Write` where both did. That `Write` comes only from a writer that failed or took nothing no contract can say, since
+//! a writer says nothing of its failures; tests show it.
 //!
 //! Bytes go out by `write_bytes`, and what is drawn of a report (`worm_view`) goes out by it too.
 //!
 //! Lanes with nothing under way are passed over without a look at their routes: of up to 262,144 lanes few are busy.
-//! Nothing is proved of a network here; the order of a lane's flits is that of its view.
+//! Of a network it is proved here that its flits are those of the `delivered` and the `underway` lines, as the last line
+//! says; the order of a lane's flits is that of its view.
 #![tactic(auto)]
 
 mod line;

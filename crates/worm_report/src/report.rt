@@ -7,7 +7,8 @@ ghost use Rattle.worm_report.specs.Seen.{seen};
 ghost use Rattle.worm_report.specs.Report.{options_rows, stop_rows, stops_rows, opening_rows, delivered_rows};
 ghost use Rattle.worm_report.specs.Report.{lane_rows, pair_rows, source_rows, underway_rows, flits_rows, closing_rows};
 ghost use Rattle.worm_report.specs.Report.{report};
-ghost use Rattle.worm_report.specs.Writing.{Writes, PutsRows, PutsOrBreaksOff};
+ghost use Rattle.worm_report.specs.Sums.{AddsUp};
+ghost use Rattle.worm_report.specs.Writing.{WritesLines, PutsRows, PutsOrBreaksOff};
 
 use crate::page::Page;
 use crate::row::Row;
@@ -239,21 +240,32 @@ fn put_report<W: Write>(
     put_closing(desk, net, summary)
 }
 
-/// Writes the report of a network and of the run that led to it. `Write` where the writer failed or took nothing,
-/// `NoMemory` where there was no memory for a page, for a line, for the set of busy lanes or for the view of a lane;
-/// a first part of the report has then gone out, and where memory ran out not all of it.
+/// What the last line says is what the lines before it say. For the proof: it does nothing.
+fn adds_up(net: &Net, summary: &Summary)
+    ensures { AddsUp (report (seen net.now) summary.now) }
+{
+    net.recall();
+}
+
+/// Writes the report of a network and of the run that led to it. `Write` where the writer failed or took nothing, also
+/// where memory had run out before; `NoMemory` where there was no memory for a page, for a line, for the set of busy
+/// lanes or for the view of a lane. A first part of the report has then gone out, and where memory ran out not all of
+/// it, but whole lines.
 pub fn write_report<W: Write>(
     alloc: Global,
     net: &Net,
     summary: &Summary,
     out: &mut W,
 ) -> Result<(), ReportFault>
-    ensures { Writes (W.contents out.old) (W.contents out.new) result (report (seen net.now) summary.now) }
+    ensures text { WritesLines (W.contents out.old) (W.contents out.new) result (report (seen net.now) summary.now) }
+    // The flits injected are those of its `delivered` lines and those of its `underway` lines, and its last line says so.
+    ensures sums { AddsUp (report (seen net.now) summary.now) }
 {
+    adds_up(net, summary);
     let page = Page::new(alloc)?;
     let mut desk = Desk { out, page };
     let made = put_report(&mut desk, alloc, net, summary);
     let Desk { out, page } = desk;
     let closed = close(out, &page);
-    made.and(closed)
+    closed.and(made)
 }

@@ -13,4 +13,4 @@ pub returns-in_err-put_row : goal.returns-in_err-put_row
 returns-in_err-put_row g c =
     breaks_off (NotOffered c.args.summary.now.not_offered ∷ [])
     (Total (seen c.args.net.now).injected (seen c.args.net.now).arrived) []
-    c.from_residual.ensures.0 c.in_err-put_row.ensures.written
+    c.from_residual.ensures.1 c.in_err-put_row.ensures.written

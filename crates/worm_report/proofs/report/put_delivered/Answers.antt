@@ -16,7 +16,7 @@ returns-in_err-put_arrived g c = below_stop
       arith,
       c.loop-node-test.true,
       c.nodes-node-end.ensures.value,
-    )) c.from_residual.ensures.0 c.loop-node.invariant
+    )) c.from_residual.ensures.1 c.loop-node.invariant
     (same_rows _ _ (ap (map (λ flit. Delivered c.loop-node.node flit)) c.delivered.ensures)
     c.in_err-put_arrived.ensures)
 

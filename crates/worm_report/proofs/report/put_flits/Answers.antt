@@ -5,7 +5,7 @@ use Rattle.worm_report.proofs.report.put_flits.Goals as goal
 
 pub returns-in_err-put_delivered : goal.returns-in_err-put_delivered
 returns-in_err-put_delivered g c =
-    rows_stop (delivered_rows (seen c.args.net.now)) (underway_rows (seen c.args.net.now)) c.from_residual.ensures.0
+    rows_stop (delivered_rows (seen c.args.net.now)) (underway_rows (seen c.args.net.now)) c.from_residual.ensures.1
     c.in_err-put_delivered.ensures
 
 pub returns : goal.returns

@@ -4,7 +4,7 @@ use Rattle.worm_report.proofs.report.put_opening.Goals as goal
 
 pub returns-in_err-put_options : goal.returns-in_err-put_options
 returns-in_err-put_options g c =
-    rows_stop (options_rows c.args.summary.now) (stops_rows c.args.summary.now.stops) c.from_residual.ensures.0
+    rows_stop (options_rows c.args.summary.now) (stops_rows c.args.summary.now.stops) c.from_residual.ensures.1
     c.in_err-put_options.ensures
 
 pub returns : goal.returns

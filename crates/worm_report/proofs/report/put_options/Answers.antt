@@ -10,4 +10,4 @@ returns g c = rows_then (Header ∷ []) (Options c.args.summary.now.turns c.args
 pub returns-in_err-put_row : goal.returns-in_err-put_row
 returns-in_err-put_row g c =
     rows_stop (Header ∷ []) (Options c.args.summary.now.turns c.args.summary.now.workers c.args.summary.now.drain ∷ [])
-    c.from_residual.ensures.0 c.in_err-put_row.ensures.written
+    c.from_residual.ensures.1 c.in_err-put_row.ensures.written

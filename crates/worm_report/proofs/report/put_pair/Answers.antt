@@ -16,7 +16,7 @@ returns-in_err-put_lane g c = below_stop
       arith,
       c.loop-class-test.true,
       c.classes-class-end.ensures.value,
-    )) c.from_residual.ensures.0 c.loop-class.invariant (c.in_err-put_lane.ensures)
+    )) c.from_residual.ensures.1 c.loop-class.invariant (c.in_err-put_lane.ensures)
 
 pub loop-class-preserved : goal.loop-class-preserved
 loop-class-preserved g c = below_then

@@ -2,14 +2,14 @@ use Rattle.std.proofs.Common.{[], ◌∷◌, ◌++◌}
 use Rattle.worm_report.specs.declared.row.Row.TheVariants.{NotOffered, Total}
 use Rattle.worm_report.specs.Report.{opening_rows, flits_rows, closing_rows}
 use Rattle.worm_report.specs.Seen.{seen}
-use Rattle.worm_report.proofs.Written.{rows_then, rows_stop, breaks_off, then_breaks_off}
+use Rattle.worm_report.proofs.Written.{rows_then, breaks_off, breaks_off_before, then_breaks_off}
 use Rattle.worm_report.proofs.report.put_report.Goals as goal
 
 pub returns-in_err-put_flits : goal.returns-in_err-put_flits
 returns-in_err-put_flits g c =
     let net = seen c.args.net.now in
     breaks_off (opening_rows c.args.summary.now ++ flits_rows net) (NotOffered c.args.summary.now.not_offered)
-    (Total net.injected net.arrived ∷ []) c.from_residual-in_err-put_flits.ensures.0
+    (Total net.injected net.arrived ∷ []) c.from_residual-in_err-put_flits.ensures.1
     (rows_then (opening_rows c.args.summary.now) (flits_rows net) c.in_ok-put_opening.ensures
     c.in_err-put_flits.ensures)
 
@@ -22,7 +22,5 @@ returns g c = then_breaks_off (opening_rows c.args.summary.now ++ flits_rows (se
 pub returns-in_err-put_opening : goal.returns-in_err-put_opening
 returns-in_err-put_opening g c =
     let net = seen c.args.net.now in
-    let e = c.from_residual.ensures.0 in
-    breaks_off (opening_rows c.args.summary.now ++ flits_rows net) (NotOffered c.args.summary.now.not_offered)
-    (Total net.injected net.arrived ∷ []) e
-    (rows_stop (opening_rows c.args.summary.now) (flits_rows net) e c.in_err-put_opening.ensures)
+    breaks_off_before (opening_rows c.args.summary.now) (flits_rows net) (NotOffered c.args.summary.now.not_offered)
+    (Total net.injected net.arrived ∷ []) c.from_residual.ensures.1 c.in_err-put_opening.ensures

@@ -14,7 +14,7 @@ returns-in_err-put_pair g c = below_stop (λ dst. pair_rows (seen c.args.busy.no
       arith,
       c.loop-dst-test.true,
       c.nodes-nodes.ensures.value,
-    )) c.from_residual.ensures.0 c.loop-dst.invariant (c.in_err-put_pair.ensures)
+    )) c.from_residual.ensures.1 c.loop-dst.invariant (c.in_err-put_pair.ensures)
 
 pub loop-dst-preserved : goal.loop-dst-preserved
 loop-dst-preserved g c = below_then (λ dst. pair_rows (seen c.args.busy.now.net.now) c.args.src dst) c.loop-dst.dst

@@ -13,7 +13,7 @@ returns-in_err-put_source g c = below_stop (λ src. source_rows (seen c.args.bus
       arith,
       c.loop-src-test.true,
       c.nodes-src-end.ensures.value,
-    )) c.from_residual.ensures.0 c.loop-src.invariant (c.in_err-put_source.ensures)
+    )) c.from_residual.ensures.1 c.loop-src.invariant (c.in_err-put_source.ensures)
 
 pub loop-src-preserved : goal.loop-src-preserved
 loop-src-preserved g c = below_then (λ src. source_rows (seen c.args.busy.now.net.now) src) c.loop-src.src

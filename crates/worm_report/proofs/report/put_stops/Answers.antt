@@ -9,7 +9,7 @@ loop-worker-init g c = below_none (λ worker. stop_rows worker (get_or c.args.st
 pub returns-in_err-put_stop : goal.returns-in_err-put_stop
 returns-in_err-put_stop g c = below_stop
     (λ worker. stop_rows worker (get_or c.args.stops.now worker None)) c.loop-worker.worker 16
-    (c.loop-worker-test.true) c.from_residual.ensures.0 c.loop-worker.invariant (c.in_err-put_stop.ensures)
+    (c.loop-worker-test.true) c.from_residual.ensures.1 c.loop-worker.invariant (c.in_err-put_stop.ensures)
 
 pub loop-worker-preserved : goal.loop-worker-preserved
 loop-worker-preserved g c = below_then (λ worker. stop_rows worker (get_or c.args.stops.now worker None))
