@@ -1,4 +1,4 @@
-use Rattle.std.proofs.Common.{◌≡◌, ◌∙◌, IsSome, Some, ap, refl, subst, sym}
+use Rattle.std.proofs.Common.{◌∙◌, IsSome, ap, refl, subst, sym}
 use Rattle.worm_router.specs.Router.{RouterState, after_send, leaving}
 use Rattle.worm_region.specs.Edges.{LetsOut}
 use Rattle.worm_region.specs.State.{IsNetPlace, NetState, router_at, shape, with_router}
