@@ -85,7 +85,7 @@ fn the_entries_of_a_turn(rt: HostRuntime) {
 fn an_entry_of_an_earlier_turn_is_not_taken(rt: HostRuntime) {
     let mut script = script_of_turns(&rt, rt.alloc(), &[1]);
     is_past(&rt, &mut script, 0);
-    has_entries(&rt, &script, 1);
+    has_turns(&rt, &script, &[1]);
 }
 
 #[test]
