@@ -22,11 +22,12 @@ use Rattle.worm_text.specs.ScriptView.{said_of}
 use Rattle.worm_report.specs.declared.summary.Summary.{Summary}
 use Rattle.worm_report.specs.Seen.{seen}
 use Rattle.worm_report.specs.Report.{report}
+use Rattle.worm_report.specs.Writing.{AreLines}
 use Rattle.worm_program.specs.declared.fault.ProgramFault.{ProgramFault}
 use Rattle.worm_program.specs.declared.fault.ProgramFault.TheVariants as f
 use Rattle.worm_program.specs.declared.turns.Ending.{Ending}
 use Rattle.worm_program.specs.Joined.{IsCut}
-use Rattle.worm_text.specs.Whole.{IsWhole}
+use Rattle.worm_text.specs.Whole.{GaveFront, GaveWhole, IsWhole}
 
 -- the turns below this one had no fault, and this one had
 abbrev pub StopsAt : List Entry → ℕ → NetState → StepFault → NetState → Type 0
@@ -46,6 +47,10 @@ pub record SaysTraffic (config : Network) (bytes : List ℕ) (entries : List Sai
   pub keeps : AreEntries config [] entries
   pub spelled : bytes ≡ traffic_text config entries
 
+-- a network text is accepted
+abbrev pub IsNetworkText : List ℕ → Type 0
+IsNetworkText network = (config : Network) × SaysNetwork network config
+
 -- one of the two texts is refused: the first fault of the network text, or, where that one is accepted, of the traffic
 -- text
 abbrev pub IsRefusedAs : List ℕ → List ℕ → ProgramFault → Type 0
@@ -60,13 +65,14 @@ IsRefusedAs network traffic f.Write = ⊥
 IsRefusedAs network traffic f.Workers = ⊥
 IsRefusedAs network traffic (f.NotStarted w) = ⊥
 
--- the texts are not both accepted, or memory ran out
+-- The texts are not both accepted, or memory ran out over the traffic text; a refused network text is always told as
+-- such.
 abbrev pub IsNotAccepted : List ℕ → List ℕ → ProgramFault → Type 0
 IsNotAccepted network traffic (f.Network t) = IsRefusedAs network traffic (f.Network t)
 IsNotAccepted network traffic (f.Traffic t) = IsRefusedAs network traffic (f.Traffic t)
 IsNotAccepted network traffic f.ReadNetwork = ⊥
 IsNotAccepted network traffic f.ReadTraffic = ⊥
-IsNotAccepted network traffic f.NoMemory = Unit {0}
+IsNotAccepted network traffic f.NoMemory = IsNetworkText network
 IsNotAccepted network traffic f.Write = ⊥
 IsNotAccepted network traffic f.Workers = ⊥
 IsNotAccepted network traffic (f.NotStarted w) = ⊥
@@ -116,9 +122,11 @@ pub record WritesFront (out : Stream) (bytes : List ℕ) : Type 0 where
 abbrev pub IsCutShort : Option StepFault → List ℕ → Type 0
 IsCutShort fault rest = rest ≡ [] → fault ≡ Some NoRoom
 
--- memory ran out: a first part of the bytes was written, and all of them only where it ran out in the run
+-- Memory ran out: a first part of the bytes was written, in whole lines, so that the writer took all that it was given;
+-- and all of them only where memory ran out in the run.
 pub record WritesShort (out : Stream) (fault : Option StepFault) (bytes : List ℕ) : Type 0 where
   pub part : WritesFront out bytes
+  pub lines : AreLines part.front
   pub short : IsCutShort fault part.rest
 
 -- What a call wrote of the report of a run that ended with this fault, or with none. Want of memory in the run is told
@@ -138,24 +146,31 @@ WritesReport out fault (Err (f.NotStarted w)) bytes = ⊥
 abbrev pub whole_run : Ending
 whole_run = record { stopped = None; fault = None }
 
--- the report of the whole run was written, all of it: the one report that the texts have
-pub record Reports (network traffic : List ℕ) (turns drain : ℕ) (out : Stream) : Type 0 where
-  pub bytes : List ℕ
+-- these bytes are the report of the whole run: the one report that the texts have
+pub record IsOneReport (network traffic : List ℕ) (turns drain : ℕ) (bytes : List ℕ) : Type 0 where
   pub reported : IsReported network traffic turns drain whole_run bytes
   pub only : (other : List ℕ) → IsReported network traffic turns drain whole_run other → other ≡ bytes
+
+-- that report was written, all of it
+pub record Reports (network traffic : List ℕ) (turns drain : ℕ) (out : Stream) : Type 0 where
+  pub bytes : List ℕ
+  pub one : IsOneReport network traffic turns drain bytes
   pub written : Appends out.old out.new bytes
 
--- a first part of the report of a run was written; no source refused an entry: nothing but want of memory ended the run
+-- A first part of the report of a run was written; no source refused an entry: nothing but want of memory ended the
+-- run. Unless that did, it is the one report that the texts have.
 pub record ReportsPart (network traffic : List ℕ) (turns drain : ℕ) (out : Stream) : Type 0 where
   pub ending : Ending
   pub for_memory : EndsForMemory ending.fault
   pub bytes : List ℕ
   pub reported : IsReported network traffic turns drain ending bytes
+  pub one : ending.fault ≢ Some NoRoom → IsOneReport network traffic turns drain bytes
   pub written : WritesFront out bytes
 
--- the same where memory ran out: all of the report only where it ran out in the run
+-- the same where memory ran out: whole lines, and all of the report only where memory ran out in the run
 pub record ReportsShort (network traffic : List ℕ) (turns drain : ℕ) (out : Stream) : Type 0 where
   pub part : ReportsPart network traffic turns drain out
+  pub lines : AreLines part.written.front
   pub short : IsCutShort part.ending.fault part.written.rest
 
 -- what a fault tells of two texts at hand
@@ -165,7 +180,7 @@ Fails network traffic turns drain out (f.Traffic t) = IsRefusedAs network traffi
 Fails network traffic turns drain out f.ReadNetwork = ⊥
 Fails network traffic turns drain out f.ReadTraffic = ⊥
 Fails network traffic turns drain out f.NoMemory =
-    Keeps out.old out.new ⊎ ReportsShort network traffic turns drain out
+    (IsNetworkText network × Keeps out.old out.new) ⊎ ReportsShort network traffic turns drain out
 Fails network traffic turns drain out f.Write = ReportsPart network traffic turns drain out
 Fails network traffic turns drain out f.Workers = ⊥
 Fails network traffic turns drain out (f.NotStarted w) = ⊥
@@ -175,6 +190,14 @@ Fails network traffic turns drain out (f.NotStarted w) = ⊥
 -- a reader gave this text, of 8 MiB at most, to its end
 abbrev pub GaveText : Stream → List ℕ → Type 0
 GaveText reader text = IsWhole 8388608 reader.old reader.new text
+
+-- a reader gave some text so
+abbrev pub GaveSome : Stream → Type 0
+GaveSome reader = GaveWhole 8388608 reader.old reader.new
+
+-- a reader gave some first part of what it had
+abbrev pub GavePart : Stream → Type 0
+GavePart reader = GaveFront reader.old reader.new
 
 -- both readers gave their texts to the end
 pub record GaveBoth (first second : Stream) (network traffic : List ℕ) : Type 0 where
@@ -195,6 +218,18 @@ pub record FailsBoth (Holds : List ℕ → List ℕ → Type 0) (first second : 
   pub gave : GaveBoth first second network traffic
   pub fails : Holds network traffic
 
+-- What a fault of reading tells: the traffic is not read before the network was, and where memory ran out what was read
+-- was read to its end, so that no text past the limit is told so.
+abbrev pub ReadsNot : Stream → Stream → ProgramFault → Type 0
+ReadsNot first second f.ReadNetwork = GavePart first × Keeps second.old second.new
+ReadsNot first second f.ReadTraffic = GaveSome first × GavePart second
+ReadsNot first second f.NoMemory = GaveSome first × (Keeps second.old second.new ⊎ GaveSome second)
+ReadsNot first second (f.Network t) = ⊥
+ReadsNot first second (f.Traffic t) = ⊥
+ReadsNot first second f.Write = ⊥
+ReadsNot first second f.Workers = ⊥
+ReadsNot first second (f.NotStarted w) = ⊥
+
 -- what a fault tells where two readers give the texts, by what it tells of two texts at hand
 abbrev pub FailsReading : (List ℕ → List ℕ → ProgramFault → Type 0) → Stream → Stream → Stream → ProgramFault → Type 0
 FailsReading Holds first second out f.Workers =
@@ -203,11 +238,11 @@ FailsReading Holds first second out (f.Network t) =
     FailsBoth (λ network traffic. Holds network traffic (f.Network t)) first second
 FailsReading Holds first second out (f.Traffic t) =
     FailsBoth (λ network traffic. Holds network traffic (f.Traffic t)) first second
-FailsReading Holds first second out f.ReadNetwork = Keeps second.old second.new × Keeps out.old out.new
-FailsReading Holds first second out f.ReadTraffic =
-    ((network : List ℕ) × GaveText first network) × Keeps out.old out.new
+FailsReading Holds first second out f.ReadNetwork = ReadsNot first second f.ReadNetwork × Keeps out.old out.new
+FailsReading Holds first second out f.ReadTraffic = ReadsNot first second f.ReadTraffic × Keeps out.old out.new
 FailsReading Holds first second out f.NoMemory =
-    Keeps out.old out.new ⊎ FailsBoth (λ network traffic. Holds network traffic f.NoMemory) first second
+    (ReadsNot first second f.NoMemory × Keeps out.old out.new)
+    ⊎ FailsBoth (λ network traffic. Holds network traffic f.NoMemory) first second
 FailsReading Holds first second out (f.NotStarted w) =
     FailsBoth (λ network traffic. Holds network traffic (f.NotStarted w)) first second
 FailsReading Holds first second out f.Write = FailsBoth (λ network traffic. Holds network traffic f.Write) first second
@@ -216,17 +251,6 @@ FailsReading Holds first second out f.Write = FailsBoth (λ network traffic. Hol
 abbrev pub FailsAlone : ℕ → ℕ → Stream → Stream → Stream → ProgramFault → Type 0
 FailsAlone turns drain first second out =
     FailsReading (λ network traffic. Fails network traffic turns drain out) first second out
-
--- what a fault of reading tells; the traffic is not read before the network is
-abbrev pub ReadsNot : Stream → Stream → ProgramFault → Type 0
-ReadsNot first second f.ReadNetwork = Keeps second.old second.new
-ReadsNot first second f.ReadTraffic = (network : List ℕ) × GaveText first network
-ReadsNot first second f.NoMemory = Unit {0}
-ReadsNot first second (f.Network t) = ⊥
-ReadsNot first second (f.Traffic t) = ⊥
-ReadsNot first second f.Write = ⊥
-ReadsNot first second f.Workers = ⊥
-ReadsNot first second (f.NotStarted w) = ⊥
 
 -- The reader gave both texts in one, cut behind its first line that is `end`, and the report of 100 turns without a
 -- drain was written.
@@ -249,9 +273,9 @@ pub record FailsCut (input out : Stream) (fault : ProgramFault) : Type 0 where
 abbrev pub FailsJoined : Stream → Stream → ProgramFault → Type 0
 FailsJoined input out (f.Network t) = FailsCut input out (f.Network t)
 FailsJoined input out (f.Traffic t) = FailsCut input out (f.Traffic t)
-FailsJoined input out f.ReadNetwork = Keeps out.old out.new
+FailsJoined input out f.ReadNetwork = GavePart input × Keeps out.old out.new
 FailsJoined input out f.ReadTraffic = ⊥
-FailsJoined input out f.NoMemory = Keeps out.old out.new ⊎ FailsCut input out f.NoMemory
+FailsJoined input out f.NoMemory = (GaveSome input × Keeps out.old out.new) ⊎ FailsCut input out f.NoMemory
 FailsJoined input out f.Write = FailsCut input out f.Write
 FailsJoined input out f.Workers = ⊥
 FailsJoined input out (f.NotStarted w) = ⊥

@@ -26,11 +26,11 @@ use Rattle.worm_text.specs.ScriptView.{said_of}
 use Rattle.worm_report.specs.declared.summary.Summary.{Summary}
 use Rattle.worm_report.specs.Report.{report}
 use Rattle.worm_report.specs.Seen.{seen}
+use Rattle.worm_report.specs.Writing.{AreLines}
 use Rattle.worm_program.specs.declared.fault.ProgramFault.{ProgramFault}
 use Rattle.worm_program.specs.declared.fault.ProgramFault.TheVariants as f
-use Rattle.worm_program.specs.Programs.{FailsReading, GaveBoth, IsCutShort, IsRefusedAs, SaysNetwork, SaysTraffic}
-use Rattle.worm_program.specs.Programs.{Stream}
-use Rattle.worm_program.specs.Programs.{WritesFront}
+use Rattle.worm_program.specs.Programs.{FailsReading, GaveBoth, IsCutShort, IsNetworkText, IsRefusedAs, SaysNetwork}
+use Rattle.worm_program.specs.Programs.{SaysTraffic, Stream, WritesFront}
 
 -- Stops
 
@@ -157,10 +157,11 @@ pub record PartTogether (may_stop may_pass : ℕ → ℕ → Type 0) (network tr
       network traffic plan drain bytes
   pub written : WritesFront out bytes
 
--- the same where memory ran out: all of the report only where it ran out in the run
+-- the same where memory ran out: whole lines, and all of the report only where memory ran out in the run
 pub record ShortTogether (may_stop may_pass : ℕ → ℕ → Type 0) (network traffic : List ℕ) (plan : RunPlan) (drain : ℕ)
     (out : Stream) : Type 0 where
   pub part : PartTogether may_stop may_pass network traffic plan drain out
+  pub lines : AreLines part.written.front
   pub short : IsCutShort part.fault part.written.rest
 
 -- both texts are accepted, and this holds of the number of nodes
@@ -182,7 +183,8 @@ FailsTogether may_stop may_pass plan drain out network traffic (f.Traffic t) =
 FailsTogether may_stop may_pass plan drain out network traffic f.ReadNetwork = ⊥
 FailsTogether may_stop may_pass plan drain out network traffic f.ReadTraffic = ⊥
 FailsTogether may_stop may_pass plan drain out network traffic f.NoMemory =
-    Keeps out.old out.new ⊎ ShortTogether may_stop may_pass network traffic plan drain out
+    (IsNetworkText network × Keeps out.old out.new)
+    ⊎ ShortTogether may_stop may_pass network traffic plan drain out
 FailsTogether may_stop may_pass plan drain out network traffic (f.NotStarted w) =
     (w < plan.workers) × HasNodes (λ nodes. plan.workers ≤ nodes) network traffic × Keeps out.old out.new
 FailsTogether may_stop may_pass plan drain out network traffic f.Write =

@@ -19,7 +19,7 @@ pub enum ProgramFault {
     ReadNetwork,
     /// The traffic text could not be read to its end, or was too long.
     ReadTraffic,
-    /// There was no memory.
+    /// There was no memory, and no writer failed.
     NoMemory,
     /// The thread of this worker could not be started.
     NotStarted {

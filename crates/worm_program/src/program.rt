@@ -137,7 +137,7 @@ fn summary_of(net: &Net, script: &Script, turns: u64, drain: u64, ending: &Endin
 }
 
 /// Writes the report of a run that ended with this fault, if with any. Want of memory in the run is told after the
-/// report.
+/// report, and a writer that failed before it.
 pub fn report_run<W: Write>(
     alloc: Global,
     net: &Net,
@@ -180,10 +180,10 @@ fn run_and_report<W: Write>(
 
 /// Reads two texts to their end, the network first, runs them on this thread, and writes the report.
 ///
-/// `ReadNetwork` and `ReadTraffic` where a reader failed or gave more than 8,388,608 bytes; `Network` and `Traffic`
-/// where a text is refused; `Write` where the writer failed or took nothing, and `NoMemory` where memory ran out: a
-/// first part of the report may then be out, and with `NoMemory` all of it only where memory ran out in a turn. With
-/// every other fault nothing was written.
+/// `ReadNetwork` and `ReadTraffic` where a reader failed or gave more than 8,388,608 bytes, be there memory for them or
+/// not; `Network` and `Traffic` where a text is refused; `Write` where the writer failed or took nothing, and else
+/// `NoMemory` where memory ran out: a first part of the report may then be out, with `NoMemory` in whole lines, and all
+/// of it only where memory ran out in a turn. With every other fault nothing was written.
 pub fn run_alone<N: Read, F: Read, W: Write>(
     alloc: Global,
     network: &mut N,

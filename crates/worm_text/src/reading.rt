@@ -1,9 +1,9 @@
 //! Reading a text to its end, under limits.
 
-ghost use Rattle.std.specs.Prelude.{IfOk};
-ghost use Rattle.worm_text.specs.Whole.{IsWhole};
+ghost use Rattle.std.specs.Prelude.{◌≡◌, ◌++◌, IfErr, IfOk, IfSome, IsSomeAnd};
+ghost use Rattle.worm_text.specs.Whole.{IsWhole, ReadsNot};
 
-use std::alloc::{AllocError, Global};
+use std::alloc::Global;
 use std::io::Read;
 
 /// The calls of `read` that a text may take.
@@ -14,43 +14,47 @@ const MOST_READS: u32 = 10_000_000;
 pub enum ReadFault {
     /// A read failed, or a limit was passed.
     Unreadable,
-    /// There was no memory for the text.
+    /// There was no memory for the text, which could be read to its end.
     NoMemory,
 }
 
-impl From<AllocError> for ReadFault {
-    ghost use Rattle.std.specs.Prelude.{◌≡◌};
-    ghost use Rattle.worm_text.specs.declared.reading.ReadFault.TheVariants.{NoMemory};
-
-    ghost from_gives = { λ _ fault. fault ≡ NoMemory };
-
-    fn from(_error: AllocError) -> ReadFault {
-        ReadFault::NoMemory
+/// The text with these bytes behind it; nothing where there is no memory for them, or was none before.
+fn lengthened(text: Option<Vec<u8>>, bytes: &[u8]) -> Option<Vec<u8>>
+    ensures { IfSome result (λ longer. IsSomeAnd text (λ short. longer.items ≡ short.items ++ bytes.now)) }
+{
+    let mut text = text?;
+    match text.extend_from_slice(bytes) {
+        Ok(()) => Some(text),
+        Err(_) => None,
     }
 }
 
 /// The bytes that the reader gives up to its end, so many at most. `Unreadable` where a read fails, where there are
-/// more, or where the end does not come within 10,000,000 reads; `NoMemory` where there is none for them.
+/// more, or where the end does not come within 10,000,000 reads, be there memory for them or not; `NoMemory` where there
+/// is none for bytes that could be read to their end.
 pub fn read_text<R: Read>(
     alloc: Global,
     reader: &mut R,
     most_bytes: usize,
 ) -> Result<Vec<u8>, ReadFault>
-    ensures { IfOk result (λ text. IsWhole most_bytes (R.remaining reader.old) (R.remaining reader.new) text.items) }
+    ensures ok { IfOk result (λ text. IsWhole most_bytes (R.remaining reader.old) (R.remaining reader.new) text.items) }
+    ensures err { IfErr result (ReadsNot most_bytes (R.remaining reader.old) (R.remaining reader.new)) }
 {
-    let mut text = Vec::new(alloc);
+    let mut text = Some(Vec::new(alloc));
+    let mut length = 0;
     let mut chunk = [0u8; 4096];
     for _ in 0..MOST_READS {
         let Ok(count) = reader.read(&mut chunk) else {
             return Err(ReadFault::Unreadable);
         };
         if count == 0 {
-            return Ok(text);
+            return text.ok_or(ReadFault::NoMemory);
         }
-        if count > most_bytes - text.len() {
+        if count > most_bytes - length {
             return Err(ReadFault::Unreadable);
         }
-        text.extend_from_slice(&chunk[..count])?;
+        length += count;
+        text = lengthened(text, &chunk[..count]);
     }
     Err(ReadFault::Unreadable)
 }
