@@ -36,8 +36,8 @@ const TWO_BYTES: u128 = 1 << 16;
 
 const FOUR_BYTES: u128 = 1 << 32;
 
-/// A flit as one word, as a link between two workers carries it. From the low end its word, channel, kind, index, packet
-/// number, class, destination and source; the upper 32 bits are zero.
+/// A flit as one word, as a link between two workers carries it. From the low end its word, channel, kind, index,
+/// packet number, class, destination and source; the upper 32 bits are zero.
 pub fn pack(flit: Flit) -> u128
     ensures word { result ≡ word_of flit }
     ensures back { (is_word result ≡ true) × (flit_of result ≡ flit) }

@@ -107,7 +107,8 @@ impl Model for FlitTx {
       sent = (knows t.pass).sent;
     } };
 
-    ghost invariant = { λ t. IsSender IsLinkHistory (arc_value t.line).queue t.pass (link_capacity (knows t.pass).link.cfg) };
+    ghost invariant = { λ t. IsSender IsLinkHistory (arc_value t.line).queue t.pass
+        (link_capacity (knows t.pass).link.cfg) };
 }
 
 /// The taker's end of a link. It may lie in a `Vec` and go to another thread.

@@ -18,8 +18,8 @@
 //! What a pass grants is what the input ports named beside a set: the channels that are granted, a bit for each.
 //! Whoever asks for the set alone is given one word, and no table of grants is made.
 //!
-//! [`SwAlloc::grant`] takes a plain array by port and channel and answers one by port. It fills such a map and reads the
-//! grants off; a router keeps its map from turn to turn and calls [`SwAlloc::grant_ready`].
+//! [`SwAlloc::grant`] takes a plain array by port and channel and answers one by port. It fills such a map and reads
+//! the grants off; a router keeps its map from turn to turn and calls [`SwAlloc::grant_ready`].
 //!
 //! It makes one pass and no second for the ports left over, so its matching need not be a largest one.
 #![tactic(auto)]

@@ -223,7 +223,8 @@ close_sound s lane sound is_open =
     (λ xs before. closed (next_number s lane) xs before)
 
 pub fresh_sound : (node nodes : ℕ) (channels : List ℕ) (classes : ℕ) (queues : List QueueState) (lanes : List LaneState)
-    → classes ≡ length channels → queues ≡ replicate classes empty_queue → lanes ≡ replicate (nodes * classes) fresh_lane
+    → classes ≡ length channels → queues ≡ replicate classes empty_queue
+    → lanes ≡ replicate (nodes * classes) fresh_lane
     → IsSource (source_state node nodes channels queues lanes)
 fresh_sound node nodes channels classes queues lanes is_count all_empty all_fresh = record {
   all_queues = rw all_empty (rw length-replicate is_count);

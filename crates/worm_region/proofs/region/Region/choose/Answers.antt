@@ -34,7 +34,8 @@ granted : (c : goal.After-granted) →
     AreGranted (switch_grants (router_at c.self.inside.fabric c.args.node)) c.granted.result
 granted c =
     subst (λ (r : RouterState). AreGranted (switch_grants r) c.granted.result) c.router_mut.ensures.value
-    (subst (λ (gs : List (Option SwGrant)). AreGranted gs c.granted.result) c.grant_ready.ensures.grants c.granted.ensures)
+    (subst (λ (gs : List (Option SwGrant)). AreGranted gs c.granted.result) c.grant_ready.ensures.grants
+    c.granted.ensures)
 
 pub invariant_of-self : goal.invariant_of-self
 invariant_of-self c =

@@ -73,7 +73,8 @@ new-ready-requires c = λ p v p_in v_in there. first_of _ _ _ _ (sym (c.ready-am
 pub pass-requires : goal.pass-requires
 pass-requires c = λ one.
     let r : RouterState = router_state c.self.inside.routes.mesh c.self.inside.routes.node c.self.inside.classes
-    c.self.inside.depth c.self.inside.inputs.items c.self.inside.outputs.items c.self.inside.channel_alloc c.self.inside.switch_alloc in
+    c.self.inside.depth c.self.inside.inputs.items c.self.inside.outputs.items c.self.inside.channel_alloc
+    c.self.inside.switch_alloc in
     let ready : c.new-ready.result ≡ ready_outs r =
     c.new-ready.ensures ∙ ready_table r _ _ _ c.ready-among.result c.self.invariant c.ready-among.ensures in
     subst (AreApart c.self.inside.switch_alloc) (sym ready)

@@ -17,7 +17,7 @@ stays : (g : given.Over) (c : After-send_within-arg-1 g) → let p : PartState =
     StaysWithin p c.args.node (leaving (router_at p.net c.args.node) c.args.port c.args.vc)
 stays g c =
     let at = subst (λ (q : PartState). leaving (router_at q.net c.args.node) c.args.port c.args.vc
-        ≡ Some (c.in-Some.out, c.in-Some.flit)) c.self.view_is (sym c.ready.ensures ∙ c.in-Some.is) in
+    ≡ Some (c.in-Some.out, c.in-Some.flit)) c.self.view_is (sym c.ready.ensures ∙ c.in-Some.is) in
     stays_by c.wake.new.self c.args.node c.in-Some.out c.in-Some.flit _ at
     (λ leaves. let led = c.leaves.ensures.1 leaves in let not = c.if-not-leaves.true in absurd (cc))
 
