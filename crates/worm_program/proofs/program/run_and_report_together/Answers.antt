@@ -1,4 +1,5 @@
-use Rattle.std.proofs.Common.{ap}
+use Rattle.std.proofs.Common.{ap, inl}
+use Rattle.std.proofs.KnownBytes.{Keeps-refl}
 use Rattle.worm_report.specs.Seen.{seen}
 use Rattle.worm_report.specs.Report.{report}
 use Rattle.worm_text.specs.Network.{view}
@@ -8,6 +9,13 @@ use Rattle.worm_program.specs.Together.{summary_with}
 use Rattle.worm_program.proofs.ByWorkers.{together_so}
 use Rattle.worm_program.proofs.Scripts.{accepted_script}
 use Rattle.worm_program.proofs.program.run_and_report_together.Goals as goal
+
+-- where there is no memory for the network
+pub returns-in_default : goal.returns-in_default
+returns-in_default g c = inl (
+  (view c.in_ok-accepted.accepted.config, c.in_ok-accepted.ensures.network),
+  Keeps-refl (g.W.Write.contents c.args.out.now),
+)
 
 pub returns : goal.returns
 returns g c =
