@@ -1,10 +1,8 @@
-/* Refuses one request of those that a program makes of the C library, or two. Loaded ahead of that library
-   (LD_PRELOAD).
+/* Refuses one request of those that a program makes of the C library. Loaded ahead of that library (LD_PRELOAD).
 
    REFUSE says of which kind it is: memory, read, write or thread, or short_read or short_write, where the call is not
    refused but moves one byte at most. REFUSE_NUMBER says which of its kind, counted from 1. Once it has come, a byte
-   is written to the file descriptor of number REFUSE_TELL. REFUSE_TOO, where it is not 0, is the number of one before
-   it that is refused, too. */
+   is written to the file descriptor of number REFUSE_TELL. */
 #define _GNU_SOURCE
 #include <dlfcn.h>
 #include <errno.h>
@@ -19,28 +17,27 @@ extern void *__libc_malloc(size_t);
 extern void *__libc_realloc(void *, size_t);
 
 static const char *kind = "";
-static long number, too, seen;
+static long number, seen;
 static int tell;
 
 __attribute__((constructor)) static void begin(void) {
     const char *asked = getenv("REFUSE"), *which = getenv("REFUSE_NUMBER"), *where = getenv("REFUSE_TELL");
-    const char *other = getenv("REFUSE_TOO");
-    if (asked && which && where && other) {
+    if (asked && which && where) {
         kind = asked;
         number = atol(which);
-        too = atol(other);
         tell = atoi(where);
     }
 }
 
-/* Whether this request, one of this kind, is one of those. */
+/* Whether this request, one of this kind, is that one. */
 static int is_it(const char *of) {
     if (strcmp(kind, of))
         return 0;
     long now = __atomic_add_fetch(&seen, 1, __ATOMIC_SEQ_CST);
-    if (now == number)
-        syscall(SYS_write, tell, "x", 1);
-    return now == number || now == too;
+    if (now != number)
+        return 0;
+    syscall(SYS_write, tell, "x", 1);
+    return 1;
 }
 
 void *malloc(size_t size) {

@@ -5,9 +5,9 @@ use Rattle.worm_theory.proofs.Histories.{packets_whole}
 use Rattle.worm_theory.proofs.Marks.{mark_is_last, nothing_more}
 use Rattle.worm_theory.proofs.Stamps.{cut_once}
 use Rattle.worm_theory.specs.Steps.{Step, StepsLead}
-use Rattle.worm_shape.proofs.PlaceCuts.{packets_are_cut, lanes_are_cut}
-use Rattle.worm_shape.proofs.PastPlaces.{open_is_active}
-use Rattle.worm_shape.proofs.Elsewhere.{nowhere_else}
+use Rattle.worm_theory.proofs.PlaceCuts.{packets_are_cut, lanes_are_cut}
+use Rattle.worm_theory.proofs.PastPlaces.{open_is_active}
+use Rattle.worm_theory.proofs.Elsewhere.{nowhere_else}
 use Rattle.worm_region.specs.Shape.{net_shape}
 use Rattle.worm_region.specs.State.{NetState, IsNet, shape, network_of}
 use Rattle.worm_core.specs.Headline.{DeliversInOrder, NothingFollowsMarks}

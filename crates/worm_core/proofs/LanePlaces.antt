@@ -15,8 +15,8 @@ use Rattle.worm_route.specs.Places.{Place, Source, Buffer, Link, places_of}
 use Rattle.worm_route.proofs.Onward.{onward, next_node, hops_nearer, hops_arrived}
 use Rattle.worm_route.proofs.PlacesByNode.{ArePlaces-of}
 use Rattle.worm_route.proofs.Track.{IsWay-route}
-use Rattle.worm_shape.proofs.Joined.{between, between-all, between-push}
-use Rattle.worm_shape.proofs.PastPlaces.{nearer, between-nearer}
+use Rattle.worm_theory.proofs.Joined.{between, between-all, between-push}
+use Rattle.worm_theory.proofs.PastPlaces.{nearer, between-nearer}
 use Rattle.worm_region.specs.NextLink.{IsNextLink}
 use Rattle.worm_core.specs.LaneView.{places_past}
 

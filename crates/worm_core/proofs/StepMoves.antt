@@ -6,8 +6,8 @@ use Rattle.worm_theory.specs.Steps.{Step}
 use Rattle.worm_flit.specs.declared.Flit.{Flit}
 use Rattle.worm_flit.specs.declared.Lane.{Lane}
 use Rattle.worm_route.specs.LaneMachine.{Machine}
-use Rattle.worm_shape.specs.LaneMoves.{MovesOne, lane_machine}
-use Rattle.worm_shape.proofs.Machines.{each_moves_one}
+use Rattle.worm_theory.specs.LaneMoves.{MovesOne, lane_machine}
+use Rattle.worm_theory.proofs.Machines.{each_moves_one}
 use Rattle.worm_region.specs.Shape.{net_shape}
 use Rattle.worm_region.specs.State.{NetState, IsNet, shape, network_of}
 use Rattle.worm_region.specs.Answers.{Answers, IsDone}

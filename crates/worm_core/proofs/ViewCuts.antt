@@ -21,11 +21,11 @@ use Rattle.worm_theory.specs.Sound.{Leaves}
 use Rattle.worm_theory.specs.Cut.{held}
 use Rattle.worm_theory.specs.PacketCut.{packet_held, joined}
 use Rattle.worm_theory.proofs.Cut.{held-append}
-use Rattle.worm_shape.proofs.Channels.{owned_by}
+use Rattle.worm_theory.proofs.Channels.{owned_by}
 use Rattle.worm_theory.proofs.PacketLists.{packet_one, packet-cons, packet-append}
 use Rattle.worm_theory.proofs.Places.{bool_cases}
-use Rattle.worm_shape.specs.LaneMoves.{lane_held}
-use Rattle.worm_shape.specs.PacketPlaces.{packet_at}
+use Rattle.worm_theory.specs.LaneMoves.{lane_held}
+use Rattle.worm_theory.specs.PacketPlaces.{packet_at}
 use Rattle.worm_region.specs.Shape.{net_shape}
 use Rattle.worm_region.specs.State.{NetState, IsNet, shape, network_of, router_at, sink_at, queue_of, input_of, link_of}
 use Rattle.worm_core.specs.LaneView.{channels_of, at_place, held_at, underway_view, joined_view, IsLaneCut}

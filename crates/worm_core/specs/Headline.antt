@@ -4,8 +4,8 @@ use Rattle.worm_theory.specs.Sound.{BuffersFit, LinksFit}
 use Rattle.worm_theory.specs.Cut.{EachOnce}
 use Rattle.worm_theory.specs.Marks.{EndsDelivered, EndsForGood}
 use Rattle.worm_theory.specs.PacketCut.{PacketsWhole}
-use Rattle.worm_shape.specs.LaneMoves.{LanesAreCut, LanesAreNowhereElse}
-use Rattle.worm_shape.specs.PacketPlaces.{PacketsAreCut, OpenPacketsAreActive}
+use Rattle.worm_theory.specs.LaneMoves.{LanesAreCut, LanesAreNowhereElse}
+use Rattle.worm_theory.specs.PacketPlaces.{PacketsAreCut, OpenPacketsAreActive}
 use Rattle.worm_region.specs.State.{NetState, shape, network_of}
 
 pub record DeliversInOrder (s : NetState) : Type 0 where

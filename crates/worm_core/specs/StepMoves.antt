@@ -5,7 +5,7 @@ use Rattle.worm_flit.specs.declared.Flit.{Flit}
 use Rattle.worm_route.specs.LaneMachine.{Machine}
 use Rattle.worm_theory.specs.Shape.{HasLane, OwnsAlone}
 use Rattle.worm_theory.specs.Steps.{Step}
-use Rattle.worm_shape.specs.LaneMoves.{MovesOne, lane_machine}
+use Rattle.worm_theory.specs.LaneMoves.{MovesOne, lane_machine}
 use Rattle.worm_region.specs.declared.step.Moved.{Moved}
 use Rattle.worm_region.specs.declared.step.Moved.TheVariants.{Done, Idle}
 use Rattle.worm_region.specs.declared.fault.StepFault.{StepFault}

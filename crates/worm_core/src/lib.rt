@@ -23,6 +23,6 @@ pub use totals::Totals;
 pub use view::{Held, LaneView, Place};
 pub use worm_region::{
     Act, Config, Due, Entry, Inboxes, LinkState, Moved, Name, NetFault, NetParts, NoMemory, Node,
-    OfferFault, Own, PortLinks, Region, Script, ScriptFault, Step, StepFault, fresh_links,
+    OfferFault, Owner, PortLinks, Region, Script, ScriptFault, Step, StepFault, fresh_links,
     fresh_nodes, tried,
 };

@@ -17,7 +17,7 @@ ghost use Rattle.std.specs.Result.{result_err};
 ghost use Rattle.worm_mesh.specs.Address.{node_count};
 
 use crate::{Config, Due, Moved, NetFault, Script, Step, StepFault};
-use std::alloc::{AllocError, Global};
+use std::alloc::Global;
 use std::marker::Model;
 use worm_flit::{Flit, Lane};
 use worm_region::{Fabric, Region};
@@ -151,14 +151,6 @@ impl Net {
         ensures { result.now ≡ sink_at self.now node }
     {
         &self.region.fabric().node(node).sink
-    }
-
-    /// Takes memory ahead for the flits that the script brings to sources and sinks, so that no turn asks for any.
-    /// `Err` where it is refused. Nothing that is seen changes.
-    pub fn make_room(&mut self, script: &Script) -> Result<(), AllocError>
-        ensures { self.new ≡ self.old }
-    {
-        self.region.make_room(script)
     }
 
     /// Whether the network has this lane: its two nodes and its class.

@@ -4,7 +4,7 @@ ghost use Rattle.std.specs.Prelude.{◌≡◌};
 ghost use Rattle.worm_region.specs.Parts.{IsConfigOf, parts_state};
 ghost use Rattle.worm_region.specs.State.{IsNet};
 
-use crate::{Config, Net, NetParts, Own};
+use crate::{Config, Net, NetParts, Owner};
 use worm_region::Region;
 
 impl Net {
@@ -35,6 +35,6 @@ impl Net {
         requires { IsNet (parts_state parts) }
         ensures { result ≡ parts_state parts }
     {
-        Net::of(Region::from_parts(parts, Own::sole()))
+        Net::of(Region::from_parts(parts, Owner::sole()))
     }
 }

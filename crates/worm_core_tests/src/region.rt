@@ -140,7 +140,6 @@ fn what_the_entries_of_a_turn_ask(rt: HostRuntime) {
     let (first, second) = (lane(0, 5, 0), lane(1, 5, 0));
     goes_on_with(&rt, &mut script, 3, Act::Offer(packet(&rt, first, &[7, 8])));
     goes_on_with(&rt, &mut script, 3, Act::Close(second));
-    script.make_room(1).expect(&rt, "memory ahead");
     goes_on_with(&rt, &mut script, 3, Act::Offer(packet(&rt, first, &[9])));
     let due = script.due(3);
     assert_eq!(&rt; due.len(), 3);

@@ -114,19 +114,6 @@ impl<R: Abort + AllocGlobal + Copy> Trial<R> {
             .expect(&self.rt, "an entry more");
     }
 
-    /// The script's entry at this place is of this lane, and brings so many flits.
-    pub fn brings(&self, i: usize, lane: Lane, flits: u8) {
-        let entries = self.script.entries();
-        assert!(self.rt; i < entries.len());
-        are_equal(&self.rt, entries[i].act.lane(), lane);
-        are_equal(&self.rt, entries[i].act.flits(), flits);
-    }
-
-    /// Memory is taken ahead for what the script brings.
-    pub fn makes_room(&mut self) {
-        self.net.make_room(&self.script).expect(&self.rt, "memory");
-    }
-
     /// One turn, or why it ended.
     pub fn turn(&mut self, turn: u64) -> Result<(), StepFault> {
         self.net.turn(turn, &self.script)

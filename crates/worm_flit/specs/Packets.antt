@@ -1,6 +1,6 @@
--- The flits of a packet and of a close mark, as a source makes them: their channel number is their class
--- (Dally and Towles, chapter 12).
-use Rattle.std.specs.Prelude.{ℕ, ◌+◌, ◌==◌, List, [], ◌∷◌, if◌then◌else◌}
+-- The flits of a packet and of a close mark, as a source makes them: their channel number is their class; and a lane's
+-- packets, one after another (Dally and Towles, chapter 12).
+use Rattle.std.specs.Prelude.{ℕ, ◌+◌, ◌==◌, ◌<◌, ◌≤◌, Bool, true, false, List, [], ◌∷◌, ◌++◌, length, if◌then◌else◌}
 use Rattle.worm_flit.specs.declared.Lane.{Lane}
 use Rattle.worm_flit.specs.declared.Kind.{Kind}
 use Rattle.worm_flit.specs.declared.Kind.TheVariants.{Head, Body, Tail, Single, Close}
@@ -41,3 +41,11 @@ kind_at count i = if count == 1 then Single else (if i == 0 then Head else (if i
 -- the mark that closes a lane, a packet of one flit
 abbrev pub mark : Lane → ℕ → Flit
 mark lane packet = flit lane packet 0 Close 0
+
+-- n packets of 1 to 32 words and marks of a lane, numbered from 0, one after another; the flag says whether the last is
+-- a mark
+pub data History (lane : Lane) : ℕ → Bool → List Flit → Type 0 where
+  fresh : History lane 0 false []
+  packet : {n : ℕ} {fs : List Flit} (words : List ℕ) → 0 < length words → length words ≤ 32 → History lane n false fs
+      → History lane (n + 1) false (fs ++ packet_flits lane n words)
+  closed : {n : ℕ} {fs : List Flit} → History lane n false fs → History lane (n + 1) true (fs ++ mark lane n ∷ [])

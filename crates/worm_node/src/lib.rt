@@ -6,4 +6,4 @@ mod fresh;
 mod node;
 
 pub use fresh::{fresh_links, make_nodes};
-pub use node::{Expected, Node};
+pub use node::Node;

@@ -6,9 +6,7 @@ ghost use Rattle.worm_router.specs.Router.{IsPlace, terminal, leaving};
 ghost use Rattle.worm_term.specs.Source.{classes, front_of};
 ghost use Rattle.worm_node.specs.Node.{AreToFeed, FrontFits, can_enter, delivered_node};
 ghost use Rattle.worm_node.specs.Node.{fed_node};
-ghost use Rattle.worm_node.specs.Node.{HasClasses};
 
-use std::alloc::AllocError;
 use worm_flit::{Flit, SmallSet};
 use worm_router::Router;
 use worm_term::{Sink, Source};
@@ -22,15 +20,6 @@ pub struct Node {
     pub router: Router,
     /// Where the flits for this node come out.
     pub sink: Sink,
-}
-
-/// How many flits a node's ends may get.
-#[derive(Clone, Copy)]
-pub struct Expected {
-    /// Of each class, those that the source may accept.
-    pub from: [u32; 4],
-    /// Those that the sink may take.
-    pub to: u32,
 }
 
 impl Node {
@@ -81,19 +70,6 @@ impl Node {
         ensures { AreToFeed self.now result }
     {
         self.router.unfilled(self.source.unfed())
-    }
-
-    /// Takes memory ahead for so many flits more, of each of so many classes at the source and of all at the sink.
-    pub fn make_room(&mut self, classes: u8, flits: &Expected) -> Result<(), AllocError>
-        requires { HasClasses classes self.old }
-        ensures { self.new ≡ self.old }
-    {
-        for class in 0..classes {
-            if let Some(from) = flits.from.get(usize::from(class)) {
-                self.source.make_room(class, *from as usize)?;
-            }
-        }
-        self.sink.make_room(flits.to as usize)
     }
 
     /// Lets the flit that is ready at this place out into the sink, if the sink can take it.

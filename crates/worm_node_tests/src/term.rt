@@ -49,7 +49,6 @@ fn closes(rt: &impl Abort, source: &mut Source, lane: Lane, answer: Result<u16, 
 #[test]
 fn a_lane_has_65535_numbers(rt: HostRuntime) {
     let mut source = source_of(&rt, rt.alloc(), 0, &[1]);
-    assert!(rt; source.make_room(0, 65_535).is_ok());
     accepts_all(&rt, &mut source);
     refuses(&rt, &mut source, lane(0, 1, 0), OfferFault::LaneFull);
     closes(&rt, &mut source, lane(0, 1, 0), Err(OfferFault::LaneFull));
@@ -98,7 +97,6 @@ fn mark() -> Flit
 #[test]
 fn a_sink_keeps_what_comes(rt: HostRuntime) {
     let mut sink = Sink::new(rt.alloc(), 1);
-    assert!(rt; sink.make_room(2).is_ok());
     takes(&rt, &mut sink, single(0, 17));
     assert_eq!(rt; sink.delivered(), [single(0, 17)].as_slice());
     assert!(rt; !sink.closed(lane(0, 1, 0)));

@@ -105,7 +105,7 @@ pub one_flit_more : (old new : Packets) (packet other : PacketId) (index : ℕ) 
     tail_in new other ≡ last_with packet index other (tail_in old other)
 one_flit_more old new packet other index now last updates = by (same_packet other packet) refl where
   tail : Option Packet → ℕ
-  tail known = (unwrap_or known (record { last = 0; number = None })).last
+  tail known = (unwrap_or known (record { last = 0; sign = None })).last
 
   by : (same : Bool) → same_packet other packet ≡ same →
       tail_in new other ≡ last_with packet index other (tail_in old other)

@@ -25,7 +25,7 @@ packet_cmp a b = ordering_then (lane_cmp a.lane b.lane) (nat_cmp a.number b.numb
 
 -- what is known of a packet: nothing, where none of its flits was noted
 abbrev pub known : Packets → PacketId → Packet
-known p packet = unwrap_or (tree.get packet_cmp p.packets packet) (record { last = 0; number = None })
+known p packet = unwrap_or (tree.get packet_cmp p.packets packet) (record { last = 0; sign = None })
 
 abbrev pub tail_in : Packets → PacketId → ℕ
 tail_in p packet = (known p packet).last

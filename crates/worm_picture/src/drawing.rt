@@ -6,7 +6,7 @@ ghost use Rattle.worm_picture.specs.Picture.{PicturesRows};
 use crate::map::map;
 use crate::packets::Packets;
 use crate::picture::picture;
-use crate::views::views;
+use crate::views::node_views;
 use std::alloc::{AllocError, Global};
 use worm_rows::{Row, Shape};
 
@@ -22,7 +22,7 @@ pub fn draw(
     ensures { IfOk result (λ drawing. as_map ≡ false → PicturesRows shape.now rows.now (string_bytes drawing)) }
 {
     let packets = Packets::of(alloc, rows)?;
-    let views = views(alloc, shape, rows, &packets)?;
+    let views = node_views(alloc, shape, rows, &packets)?;
     if as_map {
         map(alloc, &shape.mesh, depth, views.as_slice())
     } else {

@@ -24,7 +24,7 @@ fn add_shape(svg: &mut Svg, index: u8, packet: Packet, x: u32, y: u32) -> Result
     ensures { OnOk result (Adds svg.old svg.new []) }
 {
     let shape = shape_of(index, packet.last);
-    let colour = colour_of(packet.number.unwrap_or(0));
+    let colour = colour_of(packet.sign.unwrap_or(0));
     write!(
         svg.text,
         "<use href=\"#{shape}\" x=\"-{x}\" y=\"{y}\" fill=\"{colour}\"/>"
@@ -35,7 +35,7 @@ fn add_shape(svg: &mut Svg, index: u8, packet: Packet, x: u32, y: u32) -> Result
 fn add_mark(svg: &mut Svg, packet: Packet, x: u32, y: u32) -> Result<(), AllocError>
     ensures { OnOk result (Adds svg.old svg.new []) }
 {
-    let mark = mark_of(packet.number.unwrap_or(0));
+    let mark = mark_of(packet.sign.unwrap_or(0));
     write!(svg.text, "<use href=\"#{mark}\" x=\"-{x}\" y=\"{y}\"/>")
 }
 

@@ -18,10 +18,10 @@ pub const NARROWEST: u32 = 780;
 pub const NAME: u32 = 30;
 
 /// The room above the mesh, in a small picture.
-pub const HEADING: u32 = 48;
+pub const HEADING: u32 = 64;
 
 /// The room below the mesh, in a small picture.
-pub const LEGEND: u32 = 150;
+pub const LEGEND: u32 = 194;
 
 /// The sizes of a node of the picture. A node is a square about its middle; its core is where flits pass from port to
 /// port; at each side of the core is a strip with the buffers of a port.

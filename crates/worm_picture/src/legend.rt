@@ -6,10 +6,11 @@ ghost use Rattle.worm_picture.specs.Picture.{Adds};
 use crate::svg::Svg;
 use std::alloc::AllocError;
 use std::fmt::Write;
-use worm_rows::Row;
+use worm_mesh::Mesh;
+use worm_rows::{Row, Shape};
 
 const STYLE: &str = "<style>
-.n0{fill:#fff;stroke:#999}
+.n0{fill:#fff;stroke:#ddd}
 .n1{fill:#eee;stroke:#777}
 .n2{fill:#d6d6d6;stroke:#555}
 .n3{fill:#b8b8b8;stroke:#333}
@@ -74,6 +75,9 @@ the front towards the middle of the node;</text>
 <text class=\"note\" x=\"430\" y=\"102\">flits were delivered to it</text>
 <text class=\"note\" x=\"10\" y=\"124\">A way that ends inside its node leads to the sink. \
 Hover over a flit, or a count, to read what it is.</text>
+<text class=\"note\" x=\"10\" y=\"146\">Node 0 is at the top left. \
+The first dimension goes to the right, the second goes down.</text>
+<text class=\"note\" x=\"10\" y=\"168\">fullest: its buffers hold most; got most: its sink does.</text>
 ";
 
 /// How things look, and the shapes of flits.
@@ -138,13 +142,52 @@ fn add_sums(svg: &mut Svg, rows: &[Row], moving: u32) -> Result<(), AllocError>
     svg.put("</text>\n")
 }
 
-/// What run this is, and what came of it, so many times as large as in a small picture.
-pub fn add_heading(svg: &mut Svg, rows: &[Row], moving: u32, scale: u32) -> Result<(), AllocError>
+/// A radix, behind those before it.
+fn add_radix(svg: &mut Svg, radix: u8) -> Result<(), AllocError>
+    ensures { OnOk result (Adds svg.old svg.new []) }
+{
+    write!(svg.text, " {radix}")
+}
+
+/// The radices of the mesh.
+fn add_radices(svg: &mut Svg, mesh: &Mesh) -> Result<(), AllocError>
+    ensures { OnOk result (Adds svg.old svg.new []) }
+{
+    svg.put("<text class=\"note\" x=\"10\" y=\"54\">Radices:")?;
+    for dim in 0..mesh.dims() {
+        add_radix(svg, mesh.radix(dim))?;
+    }
+    Ok(())
+}
+
+/// The network, of buffers of this depth.
+fn add_network(svg: &mut Svg, shape: &Shape, depth: u8) -> Result<(), AllocError>
+    ensures { OnOk result (Adds svg.old svg.new []) }
+{
+    let classes = shape.classes;
+    let channels = shape.vcs;
+    add_radices(svg, &shape.mesh)?;
+    write!(
+        svg.text,
+        ". Depth: {depth}. Classes: {classes}. Channels: {channels}.</text>\n"
+    )
+}
+
+/// What run of which network this is, and what came of it, so many times as large as in a small picture.
+pub fn add_heading(
+    svg: &mut Svg,
+    shape: &Shape,
+    depth: u8,
+    rows: &[Row],
+    moving: u32,
+    scale: u32,
+) -> Result<(), AllocError>
     ensures { OnOk result (Adds svg.old svg.new []) }
 {
     svg.open_scaled(0, scale)?;
     add_run(svg, rows)?;
     add_sums(svg, rows, moving)?;
+    add_network(svg, shape, depth)?;
     svg.close()
 }
 

@@ -22,3 +22,6 @@ mod views;
 mod ways;
 
 pub use drawing::draw;
+pub use packets::{Packet, Packets};
+pub use scene::{Flit, Spot, exit_port};
+pub use views::{NodeView, Station, node_views};

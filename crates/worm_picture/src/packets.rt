@@ -16,8 +16,8 @@ pub struct Packet {
     /// The greatest index of its flits in the report. A packet is injected whole and loses no flit, so this is its
     /// tail.
     pub last: u8,
-    /// Its number among the packets with a flit in a buffer or on a link, in the report's order.
-    pub number: Option<u32>,
+    /// What it is coloured and marked by, where a flit of it is in a buffer or on a link.
+    pub sign: Option<u32>,
 }
 
 /// The packets of a report, by lane and number.
@@ -49,6 +49,13 @@ fn flit_of(row: &Row) -> Option<(PacketId, u8, bool)>
     }
 }
 
+/// What a packet is coloured and marked by. It hangs on nothing but the packet, so that the packet looks the same in
+/// each picture of a run. Packets that are likely to meet, of one lane or from nodes beside one another, look different.
+fn sign_of(packet: PacketId) -> u32 {
+    let PacketId { lane, number } = packet;
+    u32::from(number) + 9 * u32::from(lane.src) + 5 * u32::from(lane.class)
+}
+
 impl Packets {
     /// The packets of these rows.
     pub fn of(alloc: Global, rows: &[Row]) -> Result<Packets, AllocError>
@@ -74,8 +81,8 @@ impl Packets {
     {
         let mut known = self.get(packet);
         known.last = known.last.max(index);
-        if moves && known.number.is_none() {
-            known.number = Some(self.moving);
+        if moves && known.sign.is_none() {
+            known.sign = Some(sign_of(packet));
             self.moving = self.moving.saturating_add(1);
         }
         self.packets.insert(packet, known)?;
@@ -90,7 +97,7 @@ impl Packets {
             Some(known) => *known,
             None => Packet {
                 last: 0,
-                number: None,
+                sign: None,
             },
         }
     }

@@ -13,7 +13,7 @@ use crate::packets::Packets;
 use crate::scene::{Flit, exit_port};
 use crate::signs::{exit_of, frame_of, slots_of};
 use crate::svg::Svg;
-use crate::views::{NodeView, Station};
+use crate::views::{Most, NodeView, Station, most_of};
 use crate::ways::{Way, add_way};
 use std::alloc::{AllocError, Global};
 use std::fmt::Write;
@@ -27,6 +27,7 @@ struct Scene<'a> {
     rows: &'a [Row],
     packets: &'a Packets,
     layout: Layout,
+    most: Most,
     head: u32,
 }
 
@@ -99,11 +100,11 @@ impl<'a> Scene<'a> {
         let top = self.top_of(station);
         let y = top.saturating_add(SLOT / 2);
         let front = self.layout.core + SLOT / 2;
-        let behind = front + self.layout.long + SLOT / 2;
+        let coming = self.layout.half + SLOT;
         svg.open_frame(frame_of(self.shape.mesh.dims(), station.spot.port))?;
         self.add_buffer(svg, station, top)?;
         add_row(svg, self.packets, station.held.as_slice(), front, y)?;
-        add_row(svg, self.packets, station.coming.as_slice(), behind, y)?;
+        add_row(svg, self.packets, station.coming.as_slice(), coming, y)?;
         svg.close()
     }
 
@@ -264,7 +265,40 @@ impl<'a> Scene<'a> {
         self.add_border(svg, view)?;
         self.add_links(svg, view.node)?;
         add_counts(svg, &self.layout, self.rows, view)?;
+        self.add_held_mark(svg, view)?;
+        self.add_arrived_mark(svg, view)?;
         svg.close()
+    }
+
+    /// The mark of a node whose buffers hold the most.
+    fn add_held_mark(&self, svg: &mut Svg, view: &NodeView) -> Result<(), AllocError>
+        ensures { OnOk result (Adds svg.old svg.new []) }
+    {
+        let low = self.layout.low();
+        let high = low.saturating_sub(SLOT);
+        let held = view.held();
+        if held == 0 || held != self.most.held {
+            return Ok(());
+        }
+        write!(
+            svg.text,
+            "<text class=\"note\" x=\"-{low}\" y=\"-{high}\">fullest</text>\n"
+        )
+    }
+
+    /// The mark of a node that was delivered the most.
+    fn add_arrived_mark(&self, svg: &mut Svg, view: &NodeView) -> Result<(), AllocError>
+        ensures { OnOk result (Adds svg.old svg.new []) }
+    {
+        let low = self.layout.low();
+        let high = low.saturating_sub(SLOT);
+        if view.arrived == 0 || view.arrived != self.most.arrived {
+            return Ok(());
+        }
+        write!(
+            svg.text,
+            "<text class=\"note\" x=\"{low}\" y=\"-{high}\" text-anchor=\"end\">got most</text>\n"
+        )
     }
 
     /// The border of a node, which shows how full it is.
@@ -356,7 +390,14 @@ impl<'a> Scene<'a> {
     {
         page.open(svg)?;
         add_style(svg)?;
-        add_heading(svg, self.rows, self.packets.moving(), page.scale)?;
+        add_heading(
+            svg,
+            self.shape,
+            self.depth,
+            self.rows,
+            self.packets.moving(),
+            page.scale,
+        )?;
         self.add_names(svg)?;
         self.add_grounds(svg, views)?;
         self.add_all_traces(svg, views)
@@ -416,6 +457,7 @@ pub fn picture(
         rows,
         packets,
         layout: Layout::new(depth, shape.vcs),
+        most: most_of(views),
         head: 0,
     };
     let (mesh_width, mesh_height) = scene.size();

@@ -67,10 +67,10 @@ pub fn shape_of(index: u8, last: u8) -> &'static str
 }
 
 /// The colours of packets: eyes that do not tell red from green tell these apart (Okabe and Ito).
-pub fn colour_of(number: u32) -> &'static str
+pub fn colour_of(sign: u32) -> &'static str
     ensures plain { lacks 60 result.now ≡ true }
 {
-    match number % 7 {
+    match sign % 7 {
         0 => "#0072B2",
         1 => "#E69F00",
         2 => "#009E73",
@@ -82,10 +82,10 @@ pub fn colour_of(number: u32) -> &'static str
 }
 
 /// The mark on a packet's flits, which tells packets of one colour apart.
-pub fn mark_of(number: u32) -> &'static str
+pub fn mark_of(sign: u32) -> &'static str
     ensures plain { lacks 60 result.now ≡ true }
 {
-    match number / 7 % 4 {
+    match sign / 7 % 4 {
         0 => "plain",
         1 => "dot",
         2 => "ring",

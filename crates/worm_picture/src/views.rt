@@ -47,6 +47,28 @@ impl NodeView {
     }
 }
 
+/// The most that a node of several has.
+#[derive(Clone, Copy, Debug, PartialEq, Eq)]
+pub struct Most {
+    /// The most flits that the buffers of one hold.
+    pub held: usize,
+    /// The most flits that one was delivered.
+    pub arrived: usize,
+}
+
+/// The most that one of these nodes has.
+pub fn most_of(views: &[NodeView]) -> Most {
+    let mut most = Most {
+        held: 0,
+        arrived: 0,
+    };
+    for view in views {
+        most.held = most.held.max(view.held());
+        most.arrived = most.arrived.max(view.arrived);
+    }
+    most
+}
+
 /// The channels of a port.
 fn spots_at(alloc: Global, node: u8, port: u8, vcs: u8) -> Result<Vec<Spot>, AllocError>
     ensures { IfOk result (λ spots. spots.items ≡ spec.spots_at node vcs port) }
@@ -135,7 +157,7 @@ fn view(
 }
 
 /// All nodes, each with what the rows show of it.
-pub fn views(
+pub fn node_views(
     alloc: Global,
     shape: &Shape,
     rows: &[Row],

@@ -48,7 +48,7 @@ pub fn add_way(svg: &mut Svg, index: u8, packet: Packet, way: Way) -> Result<(),
     ensures { OnOk result (Adds svg.old svg.new []) }
 {
     let class = way_of(index);
-    let colour = colour_of(packet.number.unwrap_or(0));
+    let colour = colour_of(packet.sign.unwrap_or(0));
     write!(svg.text, "<path class=\"{class} edge\" d=\"{way}\"/>\n")?;
     write!(
         svg.text,

@@ -1,21 +1,12 @@
 -- A configuration that a network text says is one that a network is made of.
 use Rattle.std.proofs.Common.{inl, inr, ◌≡◌, ◌*◌, ℕ, List, [], ◌∷◌, length, fold, sym, ◌∙◌, arith}
-use Rattle.std.proofs.Math.Nat.{mul_assoc, mul-one, one-mul}
 use Rattle.worm_mesh.specs.Address.{AreRadices, node_count}
 use Rattle.worm_mesh.specs.Faults.{IsFault}
 use Rattle.worm_mesh.specs.declared.mesh.MeshFault.{MeshFault}
 use Rattle.worm_mesh.specs.declared.mesh.MeshFault.TheVariants.{Radix, Dims, TooManyNodes}
 use Rattle.worm_region.specs.NewNet.{IsConfig}
 use Rattle.worm_text.specs.declared.format.Format.{Format}
-use Rattle.worm_text.specs.Network.{Network, Keeps, nodes_of}
-
--- the product from the left is the product from the right
-product : (a : ℕ) (radices : List ℕ) → fold ◌*◌ a radices ≡ a * node_count radices
-product a [] = sym (mul-one a)
-product a (k ∷ radices) = product (a * k) radices ∙ mul_assoc a k (node_count radices)
-
-pub all_nodes : (radices : List ℕ) → nodes_of radices ≡ node_count radices
-all_nodes radices = product 1 radices ∙ one-mul (node_count radices)
+use Rattle.worm_text.specs.Network.{Network, Keeps}
 
 pub kept_config : (format : Format) (n : Network) (names : ℕ) → names ≡ length n.classes → Keeps format n
     → IsConfig n.radices n.channels n.depth names
@@ -24,7 +15,7 @@ kept_config format n names all kept = record {
     some_dims = omega (arith, kept.mesh.dims.0);
     few_dims = kept.mesh.dims.1;
     radices = kept.mesh.each;
-    few_nodes = omega (arith, kept.mesh.nodes, all_nodes n.radices);
+    few_nodes = kept.mesh.nodes;
   };
   classes = record {
     some = omega (arith, kept.some, kept.classes.paired);

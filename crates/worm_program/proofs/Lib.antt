@@ -9,3 +9,4 @@ pub mod NumbersRead
 pub mod OptionsGiven
 pub mod Complete
 pub mod Statuses
+pub mod NoWant

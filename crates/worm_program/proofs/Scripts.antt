@@ -3,8 +3,7 @@ use Rattle.std.proofs.Common.{◌≡◌, ℕ, ◌+◌, ◌<◌, ◌≤◌, ◌==
 use Rattle.std.proofs.Common.{subst, ◌∙◌, length-append}
 use Rattle.std.proofs.lemmas.Bool.Decides.{nat_tests}
 use Rattle.std.proofs.lemmas.List.{map-append, length-map}
-use Rattle.worm_text.proofs.Entries.{nodes_some}
-use Rattle.worm_program.proofs.Configs.{all_nodes}
+use Rattle.worm_text.proofs.NodeCounts.{nodes_some}
 use Rattle.worm_flit.specs.declared.Lane.{Lane}
 use Rattle.worm_mesh.specs.Address.{node_count}
 use Rattle.worm_script.specs.declared.entry.Act.{Act}
@@ -13,7 +12,7 @@ use Rattle.worm_script.specs.declared.entry.Entry.{Entry}
 use Rattle.worm_core.specs.Acceptable.{closes, is_closed, IsAcceptable, AreAcceptable, IsAcceptableScript}
 use Rattle.worm_script.specs.Script.{AreInOrder}
 use Rattle.worm_text.specs.declared.format.Format.{Format}
-use Rattle.worm_text.specs.Network.{Network, Keeps, nodes_of}
+use Rattle.worm_text.specs.Network.{Network, Keeps}
 use Rattle.worm_text.specs.Traffic.{Said, entry_view, said, closes as says_closed, is_closed as is_said_closed, send}
 use Rattle.worm_text.specs.Traffic.{close}
 use Rattle.worm_text.specs.TrafficText.{IsEntry, AreEntries}
@@ -35,20 +34,20 @@ closed_alike : (entries : List Entry) (lane : Lane) → is_closed entries lane �
 closed_alike [] lane = refl
 closed_alike (e ∷ entries) lane = λ t. (closes_alike lane e.act e.turn t) || (closed_alike entries lane t)
 
-module _ (n : Network) (some : 1 ≤ nodes_of n.radices) (all : nodes_of n.radices ≡ node_count n.radices)
+module _ (n : Network) (some : 1 ≤ node_count n.radices)
     (paired : length n.channels ≡ length n.classes) where
   placed : (before : List Entry) (turn : ℕ) (act : Act) → IsEntry n (said_of before) (said turn act)
       → IsAcceptable n.radices n.channels before act
   placed before turn (Offer packet) entry = record {
-    src = omega (arith, some, all, entry.0.src.1);
-    dst = omega (arith, some, all, entry.0.dst.1);
+    src = omega (arith, some, entry.0.src.1);
+    dst = omega (arith, some, entry.0.dst.1);
     class = omega (arith, entry.0.class, paired);
     open_lane = closed_alike before packet.lane ∙ entry.0.open_lane;
     may_close = tt;
   }
   placed before turn (Close lane) entry = record {
-    src = omega (arith, some, all, entry.0.src.1);
-    dst = omega (arith, some, all, entry.0.dst.1);
+    src = omega (arith, some, entry.0.src.1);
+    dst = omega (arith, some, entry.0.dst.1);
     class = omega (arith, entry.0.class, paired);
     open_lane = closed_alike before lane ∙ entry.0.open_lane;
     may_close = entry.1;
@@ -85,5 +84,5 @@ accepted_script format n script kept entries in_order =
       in_order = in_order;
       few = omega (arith, few, length-map script entry_view);
       entries = acceptable n (nodes_some n.radices kept.mesh.each)
-          (all_nodes n.radices) kept.classes.paired [] script entries;
+          kept.classes.paired [] script entries;
     }

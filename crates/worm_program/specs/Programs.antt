@@ -17,7 +17,7 @@ use Rattle.worm_text.specs.Network.{Network, Keeps as KeepsRules, text}
 use Rattle.worm_text.specs.Reader.{network_of, IsFaultLine}
 use Rattle.worm_text.specs.Traffic.{Said, traffic_of}
 use Rattle.worm_text.specs.TrafficText.{AreEntries, traffic_text}
-use Rattle.worm_text.specs.TrafficFaults.{IsTrafficFaultLine}
+use Rattle.worm_text.specs.TrafficFaults.{IsEntryLine, IsTrafficFaultLine}
 use Rattle.worm_text.specs.ScriptView.{said_of}
 use Rattle.worm_report.specs.declared.summary.Summary.{Summary}
 use Rattle.worm_report.specs.Seen.{seen}
@@ -47,9 +47,13 @@ pub record SaysTraffic (config : Network) (bytes : List ℕ) (entries : List Sai
   pub keeps : AreEntries config [] entries
   pub spelled : bytes ≡ traffic_text config entries
 
--- a network text is accepted
-abbrev pub IsNetworkText : List ℕ → Type 0
-IsNetworkText network = (config : Network) × SaysNetwork network config
+-- Memory ran out over two texts: the network text is accepted, and the traffic text is too, or its lines are up to
+-- that of an entry.
+pub record RanOutOver (network traffic : List ℕ) : Type 0 where
+  pub config : Network
+  pub of_network : SaysNetwork network config
+  pub so_far : ((entries : List Said) × SaysTraffic config traffic entries)
+      ⊎ ((line : ℕ) × IsEntryLine config traffic line)
 
 -- one of the two texts is refused: the first fault of the network text, or, where that one is accepted, of the traffic
 -- text
@@ -65,14 +69,13 @@ IsRefusedAs network traffic f.Write = ⊥
 IsRefusedAs network traffic f.Workers = ⊥
 IsRefusedAs network traffic (f.NotStarted w) = ⊥
 
--- The texts are not both accepted, or memory ran out over the traffic text; a refused network text is always told as
--- such.
+-- The texts are not both accepted, or memory ran out over the traffic text; a refused text is always told as such.
 abbrev pub IsNotAccepted : List ℕ → List ℕ → ProgramFault → Type 0
 IsNotAccepted network traffic (f.Network t) = IsRefusedAs network traffic (f.Network t)
 IsNotAccepted network traffic (f.Traffic t) = IsRefusedAs network traffic (f.Traffic t)
 IsNotAccepted network traffic f.ReadNetwork = ⊥
 IsNotAccepted network traffic f.ReadTraffic = ⊥
-IsNotAccepted network traffic f.NoMemory = IsNetworkText network
+IsNotAccepted network traffic f.NoMemory = RanOutOver network traffic
 IsNotAccepted network traffic f.Write = ⊥
 IsNotAccepted network traffic f.Workers = ⊥
 IsNotAccepted network traffic (f.NotStarted w) = ⊥
@@ -180,7 +183,7 @@ Fails network traffic turns drain out (f.Traffic t) = IsRefusedAs network traffi
 Fails network traffic turns drain out f.ReadNetwork = ⊥
 Fails network traffic turns drain out f.ReadTraffic = ⊥
 Fails network traffic turns drain out f.NoMemory =
-    (IsNetworkText network × Keeps out.old out.new) ⊎ ReportsShort network traffic turns drain out
+    (RanOutOver network traffic × Keeps out.old out.new) ⊎ ReportsShort network traffic turns drain out
 Fails network traffic turns drain out f.Write = ReportsPart network traffic turns drain out
 Fails network traffic turns drain out f.Workers = ⊥
 Fails network traffic turns drain out (f.NotStarted w) = ⊥

@@ -29,7 +29,7 @@ use Rattle.worm_report.specs.Seen.{seen}
 use Rattle.worm_report.specs.Writing.{AreLines}
 use Rattle.worm_program.specs.declared.fault.ProgramFault.{ProgramFault}
 use Rattle.worm_program.specs.declared.fault.ProgramFault.TheVariants as f
-use Rattle.worm_program.specs.Programs.{FailsReading, GaveBoth, IsCutShort, IsNetworkText, IsRefusedAs, SaysNetwork}
+use Rattle.worm_program.specs.Programs.{FailsReading, GaveBoth, IsCutShort, IsRefusedAs, RanOutOver, SaysNetwork}
 use Rattle.worm_program.specs.Programs.{SaysTraffic, Stream, WritesFront}
 
 -- Stops
@@ -183,7 +183,7 @@ FailsTogether may_stop may_pass plan drain out network traffic (f.Traffic t) =
 FailsTogether may_stop may_pass plan drain out network traffic f.ReadNetwork = ⊥
 FailsTogether may_stop may_pass plan drain out network traffic f.ReadTraffic = ⊥
 FailsTogether may_stop may_pass plan drain out network traffic f.NoMemory =
-    (IsNetworkText network × Keeps out.old out.new)
+    (RanOutOver network traffic × Keeps out.old out.new)
     ⊎ ShortTogether may_stop may_pass network traffic plan drain out
 FailsTogether may_stop may_pass plan drain out network traffic (f.NotStarted w) =
     (w < plan.workers) × HasNodes (λ nodes. plan.workers ≤ nodes) network traffic × Keeps out.old out.new

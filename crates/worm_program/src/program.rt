@@ -97,20 +97,17 @@ fn accept(alloc: Global, network: &[u8], traffic: &[u8]) -> Result<Accepted, Pro
     }
 }
 
-/// The network that an accepted text says, with nothing offered; none where there is no memory for it. It takes memory
-/// ahead for what the script brings. Where that is refused, each turn asks for what it needs.
-fn open(alloc: Global, config: &Config, script: &Script) -> Option<Net>
+/// The network that an accepted text says, with nothing offered; none where there is no memory for it.
+fn open(alloc: Global, config: &Config) -> Option<Net>
     requires { (format : Format) × KeepsRules format (view config.now) }
     ensures { IfSome result (IsFresh config.now.radices.items config.now.channels.items config.now.depth
         (texts_of config.now.classes.items)) }
 {
-    let mut net = match Net::new(alloc, config) {
-        Ok(net) => net,
-        Err(NetFault::NoMemory) => return None,
+    match Net::new(alloc, config) {
+        Ok(net) => Some(net),
+        Err(NetFault::NoMemory) => None,
         Err(NetFault::BadConfig) => unreachable!(),
-    };
-    let _ = net.make_room(script);
-    Some(net)
+    }
 }
 
 /// How many entries of the script no source accepted.
@@ -170,7 +167,7 @@ fn run_and_report<W: Write>(
         (Fails network.now traffic.now turns drain (stream (W.contents out.old) (W.contents out.new))) }
 {
     let accepted = accept(alloc, network, traffic)?;
-    let Some(mut net) = open(alloc, &accepted.config, &accepted.script) else {
+    let Some(mut net) = open(alloc, &accepted.config) else {
         return Err(ProgramFault::NoMemory);
     };
     let ending = run_script(alloc, &mut net, &accepted.script, turns, drain);
@@ -237,7 +234,7 @@ fn run_and_report_together<R: Threads + Wait + Sync, G: Gate + Sync, W: Write>(
     if !has_nodes(&accepted.config, options.workers) {
         return Err(ProgramFault::Workers);
     }
-    let Some(net) = open(alloc, &accepted.config, &accepted.script) else {
+    let Some(net) = open(alloc, &accepted.config) else {
         return Err(ProgramFault::NoMemory);
     };
     let plan = RunPlan {

@@ -6,13 +6,13 @@ use Rattle.worm_router.specs.Router.{leaving}
 use Rattle.worm_region.specs.Owned.{owned_by, sole}
 use Rattle.worm_region.specs.State.{NetState, router_at, shape}
 use Rattle.worm_region.specs.Workable.{EndsWithin, owned}
-use Rattle.worm_region.specs.declared.own.Own.{Own}
+use Rattle.worm_region.specs.declared.owner.Owner.{Owner}
 
 by_one : (x : ℕ) → (x % 1 == 0) ≡ true
 by_one x = ap (λ (r : ℕ). r == 0) (mod-one x)
 
-owns_all : (own : Own) (x : ℕ) → own ≡ sole → owned_by own x ≡ true
-owns_all own x whole = subst (λ (o : Own). owned_by o x ≡ true) (sym whole) (by_one x)
+owns_all : (own : Owner) (x : ℕ) → own ≡ sole → owned_by own x ≡ true
+owns_all own x whole = subst (λ (o : Owner). owned_by o x ≡ true) (sym whole) (by_one x)
 
 pub all_within : (s : NetState) (x o : ℕ) → s.own ≡ sole → EndsWithin (shape s) (owned s) x o
 all_within s x o whole = λ y linked. (owns_all s.own x whole, owns_all s.own y whole)

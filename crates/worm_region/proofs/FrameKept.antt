@@ -22,7 +22,7 @@ use Rattle.worm_region.specs.Moves.{done_step}
 use Rattle.worm_region.specs.Replies.{Hindered, IsMade}
 use Rattle.worm_region.proofs.NodeWritten.{node_at-put}
 use Rattle.worm_region.proofs.StaysWorking.{step_works}
-use Rattle.worm_shape.proofs.Shapes.{shape_is_mesh}
+use Rattle.worm_theory.proofs.Shapes.{shape_is_mesh}
 
 -- a framed network's shape is what the theory asks for
 pub framed_mesh : (s : NetState) → IsFramed s → IsMesh (shape s)

@@ -43,5 +43,4 @@ pub mod ClassesCovered
 pub mod CountsUnderWay
 pub mod StaysAtNode
 pub mod PassIsGrants
-pub mod OthersReady
 pub mod Sent

@@ -25,7 +25,7 @@ use Rattle.worm_theory.proofs.Closed.{empty_closed}
 use Rattle.worm_region.specs.Shape.{net_shape}
 use Rattle.worm_region.specs.Owned.{sole}
 use Rattle.worm_node.specs.declared.node.Node.{Node}
-use Rattle.worm_region.specs.declared.own.Own.{Own}
+use Rattle.worm_region.specs.declared.owner.Owner.{Owner}
 use Rattle.worm_wires.specs.Links.{LinkView, blank_link, empty_link}
 use Rattle.worm_region.specs.State.{NetState, net_state, IsNet, IsFramed, IsNodeOf, shape, network_of, node_at}
 use Rattle.worm_node.specs.NewNodes.{fresh_node}
@@ -89,7 +89,7 @@ fresh_is mesh channels depth x = record {
 }
 
 module _ (mesh channels : List ℕ) (depth : ℕ) (names : List (List ℕ)) (nodes : List Node) (links : List LinkView)
-    (own : Own)
+    (own : Owner)
     (all : AreFresh mesh channels depth nodes)
     (no_links : links ≡ replicate (link_count mesh) (empty_link (sum channels * depth))) where
   abbrev s : NetState

@@ -11,7 +11,7 @@ use Rattle.worm_flit.specs.Packets.{PacketState, packet_flits, mark}
 use Rattle.worm_flit.specs.Stamps.{of_lane}
 use Rattle.worm_flit.specs.Channels.{first_channel, owns}
 use Rattle.worm_flit.proofs.Owners.{owns-from_owner}
-use Rattle.worm_shape.proofs.Channels.{owned_by}
+use Rattle.worm_theory.proofs.Channels.{owned_by}
 use Rattle.worm_term.specs.declared.fault.OfferFault.{OfferFault}
 use Rattle.worm_term.specs.declared.fault.OfferFault.TheVariants.{WrongSource, NoSuchNode, NoSuchClass, ManyChannels}
 use Rattle.worm_term.specs.declared.fault.OfferFault.TheVariants.{LaneClosed, LaneFull, NoMemory as NoRoom}

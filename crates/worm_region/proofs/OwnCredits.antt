@@ -9,7 +9,7 @@ use Rattle.worm_theory.specs.Steps.{fed, gave_to, got, sent_by, taken_from}
 use Rattle.worm_theory.specs.Sound.{CreditsAdd}
 use Rattle.worm_theory.proofs.Credit.{count-cons, count-push}
 use Rattle.worm_theory.proofs.Feed.{off_links}
-use Rattle.worm_theory.proofs.Meshes.{same_end, same_start}
+use Rattle.worm_theory.proofs.MeshLaws.{same_end, same_start}
 use Rattle.worm_theory.proofs.Places.{number_cases, place_cases, same-true, same-false}
 use Rattle.worm_theory.proofs.Send.{down_sum, up_sum}
 use Rattle.worm_region.specs.Workable.{OwnCreditsAdd}

@@ -7,7 +7,7 @@ use Rattle.worm_records.specs.declared.InRecord.TheVariants.{Active}
 use Rattle.worm_theory.specs.Shape.{Shape, IsMesh}
 use Rattle.worm_theory.specs.Network.{Network, put2, put3, same}
 use Rattle.worm_theory.specs.Steps.{IsLinked, sent_by}
-use Rattle.worm_theory.proofs.Meshes.{same_start}
+use Rattle.worm_theory.proofs.MeshLaws.{same_start}
 use Rattle.worm_theory.proofs.Places.{place_cases, same-false}
 use Rattle.worm_theory.proofs.Send.{down_sum, up_sum}
 use Rattle.worm_region.specs.Workable.{EndsElsewhere, IsSent, OwnCreditsAdd, Works}

@@ -18,7 +18,7 @@ use Rattle.worm_router.specs.Router.{can_grant, after_grant, after_granting}
 use Rattle.worm_router.specs.Allocation.{written, with_port_grants, with_grants, channel_pass, after_allocate}
 use Rattle.worm_router.specs.Allocation.{after_choose, ready_at, ready_outs}
 use Rattle.worm_router.proofs.TableRows.{cell_has}
-use Rattle.worm_shape.proofs.Channels.{owned_by}
+use Rattle.worm_theory.proofs.Channels.{owned_by}
 use Rattle.worm_swalloc.specs.SwAlloc.{SwAllocState}
 use Rattle.worm_theory.specs.Shape.{Shape}
 use Rattle.worm_theory.specs.Network.{Network}
@@ -339,15 +339,3 @@ pub chosen_in : (s : NetState) (x : ℕ) → IsWorkable s → x < node_count s.m
     IsWorkable (with_router s x (chosen_router (router_at s x))) ×
     ReachesAt x s (with_router s x (chosen_router (router_at s x)))
 chosen_in s x net there = let all = net.framed.all_nodes in chosen s x net (omega arith)
-
--- what was ready before the pass of the switch allocator is so after it
-pub ready_chosen : (s : NetState) (x p v : ℕ) → IsWorkable s → x < node_count s.mesh → IsReady (router_at s x) p v →
-    IsReady (router_at (with_router s x (chosen_router (router_at s x))) x) p v
-unfolding chosen_router
-ready_chosen s x p v net x_in ready =
-    let all = net.framed.all_nodes in
-    subst (λ (r : RouterState). IsReady r p v)
-    (sym (router_written s x (chosen_router (router_at s x)) (omega arith))) record {
-      place = record { port_in = ready.place.port_in; channel_in = ready.place.channel_in };
-      leaves = ready.leaves;
-    }

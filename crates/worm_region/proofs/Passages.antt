@@ -7,7 +7,7 @@ use Rattle.worm_theory.specs.Steps.{Step}
 use Rattle.worm_region.specs.State.{NetState, shape, network_of}
 use Rattle.worm_region.specs.Replies.{Attempts, Replies}
 use Rattle.worm_region.specs.Answers.{Grows, refusal_of}
-use Rattle.worm_region.specs.Turns.{Turn, Turns, Passage, Stays, ◌and_then◌, Each, ForEach, fault_of, Does}
+use Rattle.worm_region.specs.Turns.{Turn, Turns, Passage, PassageOf, Stays, ◌and_then◌, Each, ForEach, fault_of, Does}
 use Rattle.worm_script.specs.Script.{due}
 use Rattle.worm_script.specs.declared.entry.Entry.{Entry}
 use Rattle.worm_region.specs.declared.step.Moved.{Moved}
@@ -17,15 +17,15 @@ use Rattle.worm_region.proofs.ReachedBySteps.{reached, joined, by_answer}
 
 -- the list, one part after another
 
-pub each_append : {A : Type 0} (P : A → Passage) (xs ys : List A) (a b c : NetState) (fault : Option StepFault) →
+pub each_append : {S A : Type 0} (P : A → PassageOf S) (xs ys : List A) (a b c : S) (fault : Option StepFault) →
     Each P xs a None b → Each P ys b fault c → Each P (xs ++ ys) a fault c
-each_append P [] ys a b c fault first then = subst (λ (s : NetState). Each P ys s fault c) first.1 then
+each_append P [] ys a b c fault first then = subst (λ s. Each P ys s fault c) first.1 then
 each_append P (x ∷ xs) ys a b c fault first then = elim first [
   | inl ended ↦ absurd (cc)
   | inr on ↦ inr (on.0, on.1, each_append P xs ys on.0 b c fault on.2 then)
 ]
 
-pub each_cut : {A : Type 0} (P : A → Passage) (xs ys : List A) (a b : NetState) (fault : Option StepFault) →
+pub each_cut : {S A : Type 0} (P : A → PassageOf S) (xs ys : List A) (a b : S) (fault : Option StepFault) →
     IsSome fault → Each P xs a fault b → Each P (xs ++ ys) a fault b
 each_cut P [] ys a b fault some first = let none = first.0 in absurd (cc)
 each_cut P (x ∷ xs) ys a b fault some first = elim first [
@@ -34,22 +34,22 @@ each_cut P (x ∷ xs) ys a b fault some first = elim first [
 ]
 
 -- a list that no fault ended, in two parts
-pub each_split : {A : Type 0} (P : A → Passage) (xs ys : List A) (a c : NetState) → Each P (xs ++ ys) a None c →
-    (b : NetState) × Each P xs a None b × Each P ys b None c
+pub each_split : {S A : Type 0} (P : A → PassageOf S) (xs ys : List A) (a c : S) → Each P (xs ++ ys) a None c →
+    (b : S) × Each P xs a None b × Each P ys b None c
 each_split P [] ys a c done = (a, (refl, refl), done)
 each_split P (x ∷ xs) ys a c done = elim done [
   | inl ended ↦ absurd (cc)
   | inr on ↦ let parts = each_split P xs ys on.0 c on.2 in (parts.0, inr (on.0, on.1, parts.1), parts.2)
 ]
 
-each_one : {A : Type 0} (P : A → Passage) (x : A) (a b : NetState) (fault : Option StepFault) → P x a fault b →
+pub each_one : {S A : Type 0} (P : A → PassageOf S) (x : A) (a b : S) (fault : Option StepFault) → P x a fault b →
     Each P (x ∷ []) a fault b
 each_one P x a b None p = inr (b, p, (refl, refl))
 each_one P x a b (Some f) p = inl (refl, p)
 
 -- each of a list of lists, and each of a list that is made of another
 
-pub each_map : {A B : Type 0} (P : B → Passage) (f : A → B) (xs : List A) (a b : NetState) (fault : Option StepFault) →
+pub each_map : {S A B : Type 0} (P : B → PassageOf S) (f : A → B) (xs : List A) (a b : S) (fault : Option StepFault) →
     Each (λ x. P (f x)) xs a fault b → Each P (map f xs) a fault b
 each_map P f [] a b fault e = e
 each_map P f (x ∷ xs) a b fault e = elim e [
@@ -57,7 +57,7 @@ each_map P f (x ∷ xs) a b fault e = elim e [
   | inr on ↦ inr (on.0, on.1, each_map P f xs on.0 b fault on.2)
 ]
 
-pub each_flat : {A B : Type 0} (P : B → Passage) (f : A → List B) (xs : List A) (a b : NetState)
+pub each_flat : {S A B : Type 0} (P : B → PassageOf S) (f : A → List B) (xs : List A) (a b : S)
     (fault : Option StepFault) → Each (λ x. Each P (f x)) xs a fault b → Each P (flat_map f xs) a fault b
 each_flat P f [] a b fault e = e
 each_flat P f (x ∷ xs) a b fault e = elim e [

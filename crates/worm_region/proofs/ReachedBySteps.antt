@@ -14,7 +14,7 @@ use Rattle.worm_region.specs.Owned.{owned_by, sole}
 use Rattle.worm_region.specs.Moves.{done_step}
 use Rattle.worm_region.specs.Replies.{IsMade, Replies}
 use Rattle.worm_region.specs.Workable.{IsWorkable, IsWorkableBy, owned}
-use Rattle.worm_region.specs.declared.own.Own.{Own}
+use Rattle.worm_region.specs.declared.owner.Owner.{Owner}
 use Rattle.worm_region.specs.Turns.{Reaches}
 
 pub reached : (s : NetState) → Reaches s s
@@ -73,7 +73,7 @@ pub still_workable : (s new : NetState) (step : Step) (answer : Result Moved Ste
     → IsWorkableBy (owned s) new × Replies s step answer new → IsWorkable new
 still_workable s new step answer made =
     let same = (by_answer s new step answer made.1).config.own in
-    subst (λ (own : Own). IsWorkableBy (owned_by own) new) (sym same) made.0
+    subst (λ (own : Owner). IsWorkableBy (owned_by own) new) (sym same) made.0
 
 -- both of these
 pub answered_inside : (inside seen new : NetState) (step : Step) (answer : Result Moved StepFault) → inside ≡ seen

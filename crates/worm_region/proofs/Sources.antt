@@ -9,12 +9,12 @@ use Rattle.std.proofs.lemmas.List.Sums.{sum_by-append}
 use Rattle.worm_flit.specs.Kinds.{closes, is_mark}
 use Rattle.worm_flit.specs.declared.Lane.{Lane}
 use Rattle.worm_flit.specs.declared.Flit.{Flit}
-use Rattle.worm_flit.specs.Packets.{packet_flits, mark}
+use Rattle.worm_flit.specs.Packets.{History, closed, fresh, mark, packet, packet_flits}
 use Rattle.worm_flit.specs.Stamps.{of_lane}
 use Rattle.worm_term.specs.declared.fault.OfferFault.{OfferFault}
 use Rattle.worm_term.specs.declared.fault.OfferFault.TheVariants.{WrongSource, NoSuchNode, NoSuchClass, ManyChannels}
 use Rattle.worm_term.specs.declared.fault.OfferFault.TheVariants.{LaneClosed, LaneFull, NoMemory}
-use Rattle.worm_term.specs.Lanes.{lane_of, IsPackets, fresh, packet, closed}
+use Rattle.worm_term.specs.Lanes.{lane_of}
 use Rattle.worm_term.specs.Queue.{QueueState, empty_queue, appended, waiting, one_fed}
 use Rattle.worm_term.specs.Source.{SourceState, IsSource, IsFrom, IsOpen, classes, queue_at, lane_at, refusal}
 use Rattle.worm_term.specs.Source.{after_fed}
@@ -45,7 +45,7 @@ fed_source t k sound there = record {
   all_queues = rw length-set sound.all_queues;
   all_lanes = sound.all_lanes;
   in_order = λ dst class dst_in class_in.
-      subst (λ (fs : List Flit). IsPackets (lane_of t.node dst class) (lane_at t (lane_of t.node dst class)).next
+      subst (λ (fs : List Flit). History (lane_of t.node dst class) (lane_at t (lane_of t.node dst class)).next
       (lane_at t (lane_of t.node dst class)).closed (of_lane (lane_of t.node dst class) fs))
       (sym (injected_kept t k there class)) (sound.in_order dst class dst_in class_in);
   owned = λ class class_in.
@@ -135,10 +135,10 @@ refusal_named t lane is_last =
     (λ (e : ◌≡◌ {A = Option OfferFault} None (Some NoMemory)). absurd (cc)))))))
 
 -- a lane's counters say what its list holds
-pub counted_packets : (lane : Lane) (n : ℕ) (b : Bool) (fs : List Flit) → IsPackets lane n b fs
+pub counted_packets : (lane : Lane) (n : ℕ) (b : Bool) (fs : List Flit) → History lane n b fs
     → (packets_in fs ≡ n) × (has_mark fs ≡ b)
 counted_packets lane n b fs fresh = (refl, refl)
-counted_packets lane n b fs (packet m gs ws some few before) =
+counted_packets lane n b fs (packet {n = m} {fs = gs} ws some few before) =
     let had = counted_packets lane m false gs before in (
       sum_by-append (λ (f : Flit). cond (closes f.kind) 1 0) gs (packet_flits lane m ws) ∙ rw (
         had.0,
@@ -149,7 +149,7 @@ counted_packets lane n b fs (packet m gs ws some few before) =
         packet-unmarked lane m ws,
       ) refl,
     )
-counted_packets lane n b fs (closed m gs before) =
+counted_packets lane n b fs (closed {n = m} {fs = gs} before) =
     let had = counted_packets lane m false gs before in (
       sum_by-append (λ (f : Flit). cond (closes f.kind) 1 0) gs (mark lane m ∷ []) ∙ rw had.0 refl,
       list_any-append (λ (f : Flit). is_mark f.kind) gs (mark lane m ∷ []) ∙ rw had.1 refl,

@@ -3,11 +3,11 @@ use Rattle.std.specs.Prelude.{◌≡◌}
 use Rattle.worm_region.specs.Owned.{sole}
 use Rattle.worm_region.specs.State.{NetState, net_state, texts_of}
 use Rattle.worm_region.specs.declared.config.Config.{Config}
-use Rattle.worm_region.specs.declared.own.Own.{Own}
+use Rattle.worm_region.specs.declared.owner.Owner.{Owner}
 use Rattle.worm_region.specs.declared.parts.NetParts.{NetParts}
 
 -- what these parts make, with these nodes owned
-abbrev pub part_state : NetParts → Own → NetState
+abbrev pub part_state : NetParts → Owner → NetState
 part_state p own =
     net_state p.config.radices.items p.config.channels.items p.config.depth (texts_of p.config.classes.items)
     p.nodes.items p.links.items own

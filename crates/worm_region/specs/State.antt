@@ -22,7 +22,7 @@ use Rattle.worm_region.specs.Shape.{net_shape}
 use Rattle.worm_region.specs.Owned.{sole}
 use Rattle.worm_wires.specs.Links.{LinkView, blank_link}
 use Rattle.worm_node.specs.declared.node.Node.{Node}
-use Rattle.worm_region.specs.declared.own.Own.{Own}
+use Rattle.worm_region.specs.declared.owner.Owner.{Owner}
 
 -- the texts of the classes' names
 abbrev pub texts_of : List ArrayString → List (List ℕ)
@@ -37,9 +37,9 @@ pub record NetState : Type 0 where
   pub names : List (List ℕ)
   pub nodes : List Node
   pub links : List LinkView
-  pub own : Own
+  pub own : Owner
 
-abbrev pub net_state : List ℕ → List ℕ → ℕ → List (List ℕ) → List Node → List LinkView → Own → NetState
+abbrev pub net_state : List ℕ → List ℕ → ℕ → List (List ℕ) → List Node → List LinkView → Owner → NetState
 net_state mesh channels depth names nodes links own = record {
   mesh = mesh;
   channels = channels;

@@ -14,7 +14,7 @@ use Rattle.worm_swalloc.specs.declared.grant.SwGrant.{SwGrant}
 use Rattle.worm_theory.specs.Steps.{Step, Offer, CloseLane, Feed, Route, Send, Take, GiveCredit, TakeCredit}
 use Rattle.worm_theory.specs.Steps.{IsThere, StepsLead, node_of}
 use Rattle.worm_region.specs.State.{NetState, IsSameConfig, shape, network_of, router_at, with_router}
-use Rattle.worm_region.specs.Moves.{IsReady, chosen_router}
+use Rattle.worm_region.specs.Moves.{chosen_router}
 use Rattle.worm_region.specs.Answers.{Answers}
 use Rattle.worm_script.specs.Script.{due, begun_at}
 use Rattle.worm_region.specs.Totals.{injected_total, delivered_total}
@@ -27,27 +27,32 @@ use Rattle.worm_region.specs.declared.fault.StepFault.TheVariants.{NoSuchPlace, 
 
 -- Passages
 
--- what is done to a network: from the old one it leads to a new one, ended by a fault or by none
-abbrev pub Passage : Type 1
-Passage = NetState → Option StepFault → NetState → Type 0
+-- what is done to a state, a network's or that of a worker's part: from the old one it leads to a new one, ended by a
+-- fault or by none
+abbrev pub PassageOf : Type 0 → Type 1
+PassageOf S = S → Option StepFault → S → Type 0
 
 -- nothing is done
-abbrev pub Stays : Passage
+abbrev pub Stays : {S : Type 0} → PassageOf S
 Stays old fault new = (fault ≡ None) × (new ≡ old)
 
 infixr 5 ◌and_then◌
 -- the one, ended by its fault; or the one without a fault, and then the other
-abbrev pub ◌and_then◌ : Passage → Passage → Passage
-◌and_then◌ P Q old fault new = (IsSome fault × P old fault new) ⊎ ((mid : NetState) × P old None mid × Q mid fault new)
+abbrev pub ◌and_then◌ : {S : Type 0} → PassageOf S → PassageOf S → PassageOf S
+◌and_then◌ {S} P Q old fault new = (IsSome fault × P old fault new) ⊎ ((mid : S) × P old None mid × Q mid fault new)
 
 -- one for each of a list, in its order, up to the first fault
-abbrev pub Each : {A : Type 0} → (A → Passage) → List A → Passage
+abbrev pub Each : {S A : Type 0} → (A → PassageOf S) → List A → PassageOf S
 Each P [] = Stays
 Each P (a ∷ rest) = P a and_then Each P rest
 
--- the same for a list that is read off the network as it is then
-abbrev pub ForEach : {A : Type 0} → (NetState → List A) → (A → Passage) → Passage
+-- the same for a list that is read off the state as it is then
+abbrev pub ForEach : {S A : Type 0} → (S → List A) → (A → PassageOf S) → PassageOf S
 ForEach list P old fault new = Each P (list old) old fault new
+
+-- what is done to a network
+abbrev pub Passage : Type 1
+Passage = PassageOf NetState
 
 -- the fault that a step's answer is to a turn: a step that is not there, or not enabled, is passed over
 abbrev pub fault_of : Result Moved StepFault → Option StepFault
@@ -135,15 +140,6 @@ AreGrants set = (grants : List (Option SwGrant)) × AreGranted grants set
 -- each channel of the set is there for the node, to be routed or to send from
 abbrev pub AreThere : NetState → ℕ → ℕ → Type 0
 AreThere s x set = (p v : ℕ) → p < 7 → v < 8 → has set p v ≡ true → IsThere (shape s) (Send x p v)
-
--- a flit may leave each of them now
-abbrev pub MayAllSend : NetState → ℕ → ℕ → Type 0
-MayAllSend s x set = (p v : ℕ) → p < 7 → v < 8 → has set p v ≡ true → IsReady (router_at s x) p v
-
--- what may leave any other channel of the node may leave it still
-abbrev pub OthersMaySend : NetState → ℕ → ℕ → ℕ → NetState → Type 0
-OthersMaySend old x p v new =
-    (q c : ℕ) → (q ≡ p → c ≡ v → ⊥) → IsReady (router_at old x) q c → IsReady (router_at new x) q c
 
 -- one pass of the switch allocator, and then the Sends that it granted
 abbrev pub SendsGrantedBy : (Step → Passage) → ℕ → Passage

@@ -21,12 +21,12 @@ ghost use Rattle.worm_region.specs.contracts.fabric.Fabric.{the_row};
 ghost use Rattle.worm_router.specs.contracts.router.Router.{the_row as router_row};
 ghost use Rattle.worm_term.specs.contracts.source.Source.{the_row as source_row};
 
-pub(crate) mod parts;
+pub(crate) mod configuration;
 mod readers;
 mod rest;
 
 use crate::nodes::Nodes;
-use crate::{Moved, Name, Node, Own, StepFault};
+use crate::{Moved, Name, Node, Owner, StepFault};
 use arrayvec::ArrayVec;
 use std::alloc::{AllocError, Global};
 use std::marker::Model;
@@ -51,7 +51,7 @@ pub struct Fabric {
     /// The nodes by number.
     pub(crate) nodes: Nodes,
     /// Which of the nodes are owned by whoever has the fabric. No code asks; what holds of a fabric does.
-    pub(crate) own: Own,
+    pub(crate) own: Owner,
 }
 
 impl Model for Fabric {
@@ -89,7 +89,7 @@ impl Fabric {
             depth,
             names,
             nodes,
-            own: Own::sole(),
+            own: Owner::sole(),
         })
     }
 

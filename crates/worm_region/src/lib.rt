@@ -10,12 +10,11 @@
 #![tactic(auto)]
 
 mod config;
-mod expected;
 mod fabric;
 mod fault;
 mod fresh;
 mod nodes;
-mod own;
+mod owner;
 mod parts;
 mod region;
 mod step;
@@ -25,7 +24,7 @@ pub use config::{Config, Name};
 pub use fabric::Fabric;
 pub use fault::{NetFault, StepFault};
 pub use fresh::fresh_nodes;
-pub use own::Own;
+pub use owner::Owner;
 pub use parts::NetParts;
 pub use region::Region;
 pub use step::{Moved, Step};

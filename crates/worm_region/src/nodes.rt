@@ -14,10 +14,8 @@ ghost use Rattle.worm_router.specs.contracts.router.Router.{the_row as router_ro
 ghost use Rattle.worm_term.specs.contracts.source.Source.{the_row as source_row};
 
 use crate::Node;
-use std::alloc::AllocError;
 use std::marker::Model;
 use worm_flit::Flit;
-use worm_node::Expected;
 use worm_router::Router;
 use worm_term::Source;
 
@@ -144,14 +142,6 @@ impl Nodes {
         self.resting[usize::from(node)]
     }
 
-    /// The node is not known to rest any more.
-    #[inline(always)]
-    pub fn wake(&mut self, node: u8)
-        ensures { self.new ≡ self.old }
-    {
-        self.resting[usize::from(node)] = false;
-    }
-
     /// Keeps it that the node rests, until it changes.
     pub fn keep_resting(&mut self, node: u8)
         requires { IsResting (nth_node self.old node) }
@@ -175,20 +165,6 @@ impl Nodes {
         ensures { IsUnderWay (accepted_in self.now) (taken_in self.now) result }
     {
         self.under_way
-    }
-
-    /// Takes memory ahead for so many flits more at each node, whose sources have so many classes.
-    pub fn make_room(&mut self, classes: u8, expected: &[Expected; 256]) -> Result<(), AllocError>
-        requires { HaveClasses classes self.old }
-        ensures { self.new ≡ self.old }
-    {
-        for node in 0..self.list.len() {
-            if let Some(flits) = expected.get(node) {
-                let here = &mut self.list[node];
-                here.make_room(classes, flits)?;
-            }
-        }
-        Ok(())
     }
 
     /// Moves the next flit of the class from the node's source into its injection buffer, where there is one and that

@@ -12,7 +12,7 @@ ghost use Rattle.worm_region.specs.State.{IsNet, shape, router_at, texts_of, wit
 ghost use Rattle.worm_region.specs.Owned.{sole};
 ghost use Rattle.worm_wires.specs.Wiring.{port_links};
 ghost use Rattle.worm_region.specs.Workable.{EndsWithin, IsWorkable, owned};
-ghost use Rattle.worm_region.specs.Turns.{AreThere, Chooses, ComesInBy, MayAllSend, NodePassesBy, OthersMaySend};
+ghost use Rattle.worm_region.specs.Turns.{AreThere, Chooses, ComesInBy, NodePassesBy};
 ghost use Rattle.worm_region.specs.Turns.{ReachesAt};
 ghost use Rattle.worm_mesh.specs.Address.{node_count, neighbour_of};
 ghost use Rattle.worm_router.specs.Router.{input_at, leaving};
@@ -25,10 +25,9 @@ mod edges;
 mod parts;
 
 use crate::config::copy_names;
-use crate::expected::expected_of;
 use crate::fabric::Fabric;
 use crate::{Config, Moved, NetFault, Script, Step, StepFault};
-use std::alloc::{AllocError, Global};
+use std::alloc::Global;
 use std::marker::Model;
 use worm_flit::{Lane, Packet, SmallSet, are_channels};
 use worm_mesh::Mesh;
@@ -164,7 +163,6 @@ impl Region {
         requires { node < node_count self.old.mesh }
         ensures chooses { Chooses node result self.old self.new }
         ensures there { AreThere self.new node result }
-        ensures ready { MayAllSend self.new node result }
         ensures reaches { ReachesAt node self.old self.new }
     {
         self.fabric.router_mut(node).grant_ready().granted()
@@ -239,16 +237,6 @@ impl Region {
     {
         let classes = self.fabric.classes();
         self.fabric.nodes.count_under_way(classes);
-    }
-
-    /// Takes memory ahead for the flits that the script brings to sources and sinks, so that no turn asks for any.
-    /// `Err` where it is refused. Nothing that is seen changes.
-    pub fn make_room(&mut self, script: &Script) -> Result<(), AllocError>
-        ensures { self.new ≡ self.old }
-    {
-        let classes = self.fabric.classes();
-        let expected = expected_of(script);
-        self.fabric.nodes.make_room(classes, &expected)
     }
 
     /// An Offer: the node's source is asked to accept the packet.
@@ -335,15 +323,13 @@ impl Region {
     }
 
     /// A Send where the place is there: idle where no flit is ready, `NoMemory`, with nothing changed, where there is
-    /// none for a delivered flit. What leaves over a link stays among the nodes that are owned. No two hold one output
-    /// channel, so what may leave any other channel of the node may leave it still.
+    /// none for a delivered flit. What leaves over a link stays among the nodes that are owned.
     #[inline(always)]
     pub fn send_there(&mut self, node: u8, port: u8, vc: u8) -> Result<Moved, StepFault>
         requires there { IsThere (shape self.old) (Event.Send node port vc) }
         requires within { IfSome (leaving (router_at self.old node) port vc)
             (λ out. EndsWithin (shape self.old) (owned self.old) node out.0) }
-        ensures sent { Replies self.old (Event.Send node port vc) result self.new }
-        ensures others { OthersMaySend self.old node port vc self.new }
+        ensures { Replies self.old (Event.Send node port vc) result self.new }
     {
         self.fabric.send(node, port, vc)
     }

@@ -2,22 +2,16 @@
 
 ghost use Rattle.std.specs.Prelude.{ℕ, List, [], ◌≡◌, ◌<◌, ◌*◌, Option, None, Some, IsTrue, true, false, length, sum};
 ghost use Rattle.std.specs.Result.{result_err};
-ghost use Rattle.std.specs.Prelude.{IsSome};
-ghost use Rattle.worm_mesh.specs.Address.{neighbour_of, node_count};
+ghost use Rattle.worm_mesh.specs.Address.{node_count};
 ghost use Rattle.worm_region.specs.Replies.{Attempts, Replies};
 ghost use Rattle.worm_script.specs.Script.{begun_at};
 ghost use Rattle.worm_region.specs.Owned.{sole};
-ghost use Rattle.worm_region.specs.Workable.{IsWorkable};
-ghost use Rattle.worm_router.specs.Router.{input_at, width};
 ghost use Rattle.worm_swalloc.specs.SwAlloc.{AreGranted};
 ghost use Rattle.worm_swalloc.specs.declared.grant.SwGrant.{SwGrant};
-ghost use Rattle.worm_region.specs.State.{router_at, shape};
-ghost use Rattle.worm_theory.specs.Steps.{Feed, IsThere, Route, Take, TakeCredit};
-ghost use Rattle.worm_region.specs.Moves.{NoCredit, NoFeed, NoFlit, OwesTheSame, RoutesTheSame};
-ghost use Rattle.worm_region.specs.Turns.{Does, ForEach, ReachesAt, all_nodes, ask, fault_of, lowest_owed};
-ghost use Rattle.worm_region.specs.Turns.{AsksSourceBy, ComesInBy, FeedsClassesBy, GivesCreditBy, GivesCreditsBy};
+ghost use Rattle.worm_region.specs.Turns.{Does, ForEach, ReachesAt, all_nodes, ask, fault_of};
+ghost use Rattle.worm_region.specs.Turns.{AsksSourceBy, ComesInBy, FeedsClassesBy, GivesCreditsBy};
 ghost use Rattle.worm_region.specs.Turns.{NodePassesBy, NodeTurnBy, RoutesChannelsBy, SendsBy, TakesCreditsBy};
-ghost use Rattle.worm_region.specs.Turns.{TakesFlitsBy, AreGrants, AreMarked, AreThere, MayAllSend};
+ghost use Rattle.worm_region.specs.Turns.{TakesFlitsBy, AreGrants, AreMarked, AreThere};
 ghost use Rattle.worm_region.specs.Prepared.{Prepares};
 
 use crate::region::Region;
@@ -75,18 +69,6 @@ impl Region {
         Ok(())
     }
 
-    /// Takes the credit that comes back by the port, and by no other.
-    fn take_credit_at(&mut self, node: u8, port: u8)
-        requires { IsSome (neighbour_of self.old.mesh node port) }
-        ensures taken { Does (Attempts (TakeCredit node port)) self.old None self.new }
-        ensures others { (p : ℕ) → (p ≡ port → ⊥) → NoCredit self.old node p → NoCredit self.new node p }
-        ensures sound { IsWorkable self.new }
-    {
-        self.recall();
-        let _moved = self.take_credit_there(node, port);
-        self.recall();
-    }
-
     /// Takes a credit from each link out of the node, ports rising.
     fn take_credits(&mut self, node: u8)
         requires { node < node_count self.old.mesh }
@@ -94,20 +76,10 @@ impl Region {
     {
         let mut left = self.credits_in(node);
         while let Some(port) = left.pop_first() {
-            self.take_credit_at(node, port);
+            self.recall();
+            let _moved = self.take_credit_there(node, port);
+            self.recall();
         }
-    }
-
-    /// Takes the flit that comes in by the port, and by no other.
-    fn take_flit_at(&mut self, node: u8, port: u8)
-        requires { IsSome (neighbour_of self.old.mesh node port) }
-        ensures taken { Does (Attempts (Take node port)) self.old None self.new }
-        ensures others { (p : ℕ) → (p ≡ port → ⊥) → NoFlit self.old node p → NoFlit self.new node p }
-        ensures sound { IsWorkable self.new }
-    {
-        self.recall();
-        let _moved = self.take_flit_there(node, port);
-        self.recall();
     }
 
     /// Takes a flit from each link into the node, ports rising.
@@ -117,21 +89,10 @@ impl Region {
     {
         let mut left = self.flits_in(node);
         while let Some(port) = left.pop_first() {
-            self.take_flit_at(node, port);
+            self.recall();
+            let _moved = self.take_flit_there(node, port);
+            self.recall();
         }
-    }
-
-    /// Feeds a flit of the class, and of no other.
-    fn feed_class(&mut self, node: u8, class: u8)
-        requires node { node < node_count self.old.mesh }
-        requires class { class < length self.old.channels }
-        ensures fed { Does (Attempts (Feed node class)) self.old None self.new }
-        ensures others { (k : ℕ) → (k ≡ class → ⊥) → NoFeed self.old node k → NoFeed self.new node k }
-        ensures sound { IsWorkable self.new }
-    {
-        self.recall();
-        let _fed = self.feed_there(node, class);
-        self.recall();
     }
 
     /// Feeds a flit of each class, rising.
@@ -141,21 +102,10 @@ impl Region {
     {
         let mut left = self.unfed(node);
         while let Some(class) = left.pop_first() {
-            self.feed_class(node, class);
+            self.recall();
+            let _fed = self.feed_there(node, class);
+            self.recall();
         }
-    }
-
-    /// Routes a channel, which changes what no other has to route.
-    fn route_channel(&mut self, node: u8, port: u8, vc: u8)
-        requires { IsThere (shape self.old) (Route node port vc) }
-        ensures routed { Does (Attempts (Route node port vc)) self.old None self.new }
-        ensures others { (p v : ℕ) → ((p ≡ port) → (v ≡ vc) → ⊥) → v < width (router_at self.new node) →
-            RoutesTheSame self.old self.new node p v }
-        ensures sound { IsWorkable self.new }
-    {
-        self.recall();
-        let _moved = self.route_there(node, port, vc);
-        self.recall();
     }
 
     /// Routes each channel that lacks a route, by rising port, then channel.
@@ -165,7 +115,9 @@ impl Region {
     {
         let mut unrouted = self.unrouted(node);
         while let Some((port, vc)) = unrouted.pop_first() {
-            self.route_channel(node, port, vc);
+            self.recall();
+            let _moved = self.route_there(node, port, vc);
+            self.recall();
         }
     }
 
@@ -173,7 +125,6 @@ impl Region {
     fn send_granted(&mut self, node: u8, granted: ChannelSet) -> Result<(), StepFault>
         requires granted { AreGrants granted }
         requires there { AreThere self.old node granted }
-        requires ready { MayAllSend self.old node granted }
         requires whole { self.old.own ≡ sole }
         ensures { (grants : List (Option SwGrant)) → AreGranted grants granted →
             Does (SendsBy Attempts grants node) self.old (result_err result) self.new }
@@ -186,22 +137,6 @@ impl Region {
         Ok(())
     }
 
-    /// Gives a credit that a channel of the port owes to the link into it.
-    fn give_credit_at(&mut self, node: u8, port: u8, vc: u8)
-        requires channel { vc < sum self.old.channels }
-        requires owed { 0 < (input_at (router_at self.old node) port vc).owed }
-        requires whole { self.old.own ≡ sole }
-        ensures given { Some vc ≡ lowest_owed (router_at self.old node) port →
-            Does (GivesCreditBy Attempts node port) self.old None self.new }
-        ensures others { (p : ℕ) (v : ℕ) → (p ≡ port → ⊥) → v < width (router_at self.new node) →
-            OwesTheSame self.old self.new node p v }
-        ensures sound { IsWorkable self.new }
-    {
-        self.recall();
-        self.give_owed(node, port, vc);
-        self.recall();
-    }
-
     /// Gives a credit of the lowest channel that owes one to each link into the node, ports rising.
     fn give_credits(&mut self, node: u8)
         requires node { node < node_count self.old.mesh }
@@ -210,7 +145,9 @@ impl Region {
     {
         let mut left = self.owing(node);
         while let Some((port, vc)) = left.pop_port_lowest() {
-            self.give_credit_at(node, port, vc);
+            self.recall();
+            self.give_owed(node, port, vc);
+            self.recall();
         }
     }
 
@@ -233,7 +170,6 @@ impl Region {
         requires { node < node_count self.old.mesh }
         ensures prepares { Prepares node result self.old self.new }
         ensures there { AreThere self.new node result }
-        ensures ready { MayAllSend self.new node result }
         ensures at_node { ReachesAt node self.old self.new }
     {
         // What holds of each region is told of those between, too, for whoever keeps more of them than this.

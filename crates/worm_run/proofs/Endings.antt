@@ -7,7 +7,7 @@ use Rattle.worm_script.specs.Script.{begun_at, due}
 use Rattle.worm_region.specs.State.{source_at, sink_at}
 use Rattle.worm_region.specs.Owned.{owned_by}
 use Rattle.worm_region.specs.Workable.{owned}
-use Rattle.worm_region.specs.declared.own.Own.{Own}
+use Rattle.worm_region.specs.declared.owner.Owner.{Owner}
 use Rattle.worm_script.specs.declared.entry.Entry.{Entry}
 use Rattle.worm_region.specs.declared.fault.StepFault.{StepFault}
 use Rattle.worm_split.specs.Effects.{HasAccepted, Refuses}
@@ -106,4 +106,4 @@ module _ (script : List Entry) (n : ℕ) (old new : PartState) where
         refused = r.refused;
       } where
         own_back : IsSamePart old mid → (x : ℕ) → owned mid.net x ≡ true → owned old.net x ≡ true
-        own_back same x own = subst (λ (w : Own). owned_by w x ≡ true) same.config.own own
+        own_back same x own = subst (λ (w : Owner). owned_by w x ≡ true) same.config.own own

@@ -4,18 +4,14 @@ use Rattle.std.proofs.Common.{◌∙◌}
 use Rattle.std.specs.Prelude.{slice_index_or}
 use Rattle.std.proofs.lemmas.List.{get_or-map, length-map}
 use Rattle.worm_region.specs.State.{NetState}
-use Rattle.worm_region.specs.declared.own.Own.{Own}
 use Rattle.worm_script.specs.declared.entry.Entry.{Entry}
 use Rattle.worm_split.specs.Joins.{AreParts}
 use Rattle.worm_split.specs.PartState.{PartState, IsSamePart}
 use Rattle.worm_split.specs.Splits.{IsFirstPart, IsSplitOf, no_part, part_at}
+use Rattle.worm_split.proofs.StillParts.{split_parts, still_parts}
 use Rattle.worm_run.specs.Working.{AllWorked, WorkedAs, fault_of_stop}
 use Rattle.worm_run.specs.declared.working.Worked.{Worked}
 use Rattle.worm_run.proofs.Endings.{ends_same}
-
--- a worker of so many
-abbrev worker_of : ℕ → ℕ → Own
-worker_of w m = record { worker = w; workers = m }
 
 abbrev pub part_of : Worked → PartState
 part_of w = w.part
@@ -87,16 +83,6 @@ module _ (stop pass : ℕ → ℕ → Type 0) (script : List Entry) (turns : ℕ
 
   pub are_parts : 0 < workers → AreParts moved
   are_parts some =
-      let n = count in
-      record {
-        some = omega (arith, n);
-        owns = λ w below.
-            let under : w < workers = omega (arith, n) in
-            (same w under).config.own ∙ ((first_part w under).own ∙ ap (λ (m : ℕ). worker_of w m) (sym n));
-        one_opening = λ w below.
-            let under : w < workers = omega (arith, n) in
-            opened w under ∙ sym (opened 0 some);
-        one_split = λ w below.
-            let under : w < workers = omega (arith, n) in
-            ((same w under).lines ∙ (first_part w under).made) ∙ sym ((same 0 some).lines ∙ (first_part 0 some).made);
-      }
+      let n = split.count in
+      still_parts parts moved (split_parts old workers parts split some) (count ∙ sym n)
+      (λ w below. same w (omega (arith, n)))

@@ -11,7 +11,7 @@ use Rattle.worm_region.specs.Owned.{owned_by}
 use Rattle.worm_region.specs.State.{NetState, node_at, source_at, sink_at}
 use Rattle.worm_region.specs.Workable.{owned}
 use Rattle.worm_node.specs.declared.node.Node.{Node}
-use Rattle.worm_region.specs.declared.own.Own.{Own}
+use Rattle.worm_region.specs.declared.owner.Owner.{Owner}
 use Rattle.worm_script.specs.declared.entry.Entry.{Entry}
 use Rattle.worm_split.specs.Effects.{HasAccepted, Refuses}
 use Rattle.worm_split.specs.Joins.{IsJoinOf, IsLaterThan}
@@ -123,7 +123,7 @@ module _ (stop pass : ℕ → ℕ → Type 0) (script : List Entry) (plan : RunP
     in_part = subst (λ (m : List ℕ). x < node_count m) (sym (ran.split.each w below).config.mesh) there
 
     mine : owned before.net x ≡ true
-    mine = subst (λ (o : Own). owned_by o x ≡ true) (sym (ran.split.each w below).own) (same_number w)
+    mine = subst (λ (o : Owner). owned_by o x ≡ true) (sym (ran.split.each w below).own) (same_number w)
 
     from : node_at before.net x ≡ node_at old x
     from = (ran.split.each w below).nodes x mine
@@ -178,7 +178,7 @@ module _ (stop pass : ℕ → ℕ → Type 0) (script : List Entry) (plan : RunP
       let first = ran.split.each w under in
       let there : r.node < node_count old.mesh =
       subst (λ (m : List ℕ). r.node < node_count m) first.config.mesh r.there in
-      let own : (r.node % W == w) ≡ true = subst (λ (o : Own). owned_by o r.node ≡ true) first.own r.own in
+      let own : (r.node % W == w) ≡ true = subst (λ (o : Owner). owned_by o r.node ≡ true) first.own r.own in
       let at_w : r.node % W ≡ w = number_is (r.node % W) w own in
       let before : source_at (part_at parts w).net r.node ≡ source_at old r.node =
       ap (λ (n : Node). n.source) (first.nodes r.node r.own) in

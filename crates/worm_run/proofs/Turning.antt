@@ -7,7 +7,7 @@ use Rattle.worm_script.specs.Script.{AreInOrder, begun_at, due}
 use Rattle.worm_region.specs.State.{source_at, sink_at}
 use Rattle.worm_region.specs.Owned.{owned_by}
 use Rattle.worm_region.specs.Workable.{owned}
-use Rattle.worm_region.specs.declared.own.Own.{Own}
+use Rattle.worm_region.specs.declared.owner.Owner.{Owner}
 use Rattle.worm_script.specs.declared.entry.Entry.{Entry}
 use Rattle.worm_split.specs.PartState.{PartState, IsSamePart}
 use Rattle.worm_split.specs.PartTurns.{Turn}
@@ -22,7 +22,7 @@ pub there_still : (a b : PartState) (x : ℕ) → IsSamePart a b → x < node_co
 there_still a b x same below = subst (λ (m : List ℕ). x < node_count m) (sym same.config.mesh) below
 
 pub own_still : (a b : PartState) (x : ℕ) → IsSamePart a b → owned a.net x ≡ true → owned b.net x ≡ true
-own_still a b x same own = subst (λ (w : Own). owned_by w x ≡ true) (sym same.config.own) own
+own_still a b x same own = subst (λ (w : Owner). owned_by w x ≡ true) (sym same.config.own) own
 
 -- at most so many flits, and then one at most
 pub grew_more : (n : ℕ) (a b c : List Flit) → GrewBy n a b → OneMore b c → GrewBy (n + 1) a c

@@ -9,8 +9,9 @@ use Rattle.worm_region.specs.State.{source_at, sink_at}
 use Rattle.worm_region.specs.Workable.{owned}
 use Rattle.worm_script.specs.declared.entry.Entry.{Entry}
 use Rattle.worm_region.specs.declared.fault.StepFault.{StepFault}
+use Rattle.worm_region.specs.Turns.{Each}
 use Rattle.worm_split.specs.PartState.{PartState, IsSamePart}
-use Rattle.worm_split.specs.PartTurns.{PartPassage, EachOf, Turn}
+use Rattle.worm_split.specs.PartTurns.{PartPassage, Turn}
 use Rattle.worm_split.specs.Stops.{fault_behind}
 use Rattle.worm_split.specs.Effects.{HasAccepted, SourcesTake, SinksTakeOne, IsRefused}
 use Rattle.worm_run.specs.declared.plan.Stop.{Stop}
@@ -28,7 +29,7 @@ GrewBy n old new = (more : List Flit) × (new ≡ old ++ more) × (length more �
 
 -- the turns below a number, one after another, each with its entries of the script
 unfoldable pub Turns : List Entry → ℕ → PartPassage
-Turns script n = EachOf (λ t. Turn (due t script)) (range_with_len 0 n)
+Turns script n = Each (λ t. Turn (due t script)) (range_with_len 0 n)
 
 -- The part took its turns below n: each source of its nodes accepted the entries of those turns that begin there, in
 -- script order, and each sink grew by at most n flits.

@@ -1,13 +1,17 @@
-//! A network is split and joined.
+//! A network is split and joined, at once or once each part took turns on a thread of its own.
 
-ghost use Rattle.std.specs.Prelude.{◌≡◌, ◌*◌, length};
+ghost use Rattle.std.specs.Prelude.{◌≡◌, ◌<◌, ◌*◌, ◌++◌, ◌∷◌, [], length};
 ghost use Rattle.worm_split.specs.Joins.{AreParts};
+ghost use Rattle.worm_split.specs.PartState.{IsSamePart};
 
-use crate::cases::{lane, opposite};
+use crate::cases::{lane, opposite, words_of};
 use crate::trial::Trial;
 use std::process::Abort;
+use std::snapshot::Snapshot;
 use std::sync::Wait;
-use worm_core::{LaneView, Net};
+use std::thread;
+use std::thread::{Promise, PromisedHandle, Scope, Threads};
+use worm_core::{LaneView, Net, Script};
 use worm_split::{Part, join, split};
 
 /// The parts of the network, for so many workers.
@@ -94,4 +98,112 @@ fn to_split_and_join_changes_nothing(rt: HostRuntime) {
         }
     }
     trial.has_delivered(48);
+}
+
+/// A thread's promise: what it gives back is this part, after some turns.
+#[derive(Drop)]
+struct GivesBack(Snapshot<Part>);
+
+impl Promise<Part> for GivesBack {
+    ghost kept_by = { λ given part. IsSamePart given.0.value part };
+}
+
+/// The part after its turns below this number, none of which a fault ends.
+fn turned<R: Abort + Wait>(rt: &R, mut part: Part, turns: u64, script: &Script) -> Part
+    ensures { IsSamePart part result }
+{
+    for turn in 0..turns {
+        assert!(rt; part.turn(rt, turn, script).is_ok());
+    }
+    part
+}
+
+/// Starts a thread of the scope that takes the part's turns below this number.
+fn start<'s, E, R: Abort + Threads + Wait + Sync>(
+    scope: &Scope<'s, E>,
+    rt: &'s R,
+    part: Part,
+    turns: u64,
+    script: &'s Script,
+) -> PromisedHandle<Part, GivesBack>
+    ensures { result.promise.0.value ≡ part }
+{
+    let given = GivesBack(Snapshot::of(&part));
+    match scope.spawn_with(given, move || turned(rt, part, turns, script)) {
+        Ok(child) => child,
+        Err(_) => panic!(rt; "no thread"),
+    }
+}
+
+/// Two parts after each took its turns below this number, on a thread of its own.
+fn both_turned<'s, E, R: Abort + Threads + Wait + Sync>(
+    scope: &Scope<'s, E>,
+    rt: &'s R,
+    mut parts: Vec<Part>,
+    turns: u64,
+    script: &'s Script,
+) -> Vec<Part>
+    requires { AreParts parts.items × (length parts.items ≡ 2) }
+    ensures { AreParts result.items }
+{
+    let last = parts.pop().expect(rt, "a second part");
+    let second = start(scope, rt, last, turns, script);
+    let last = parts.pop().expect(rt, "a first part");
+    let first = start(scope, rt, last, turns, script);
+    parts.push(first.join(rt)).expect(rt, "memory");
+    parts.push(second.join(rt)).expect(rt, "memory");
+    parts
+}
+
+/// The same, in a scope of two threads.
+fn on_two_threads<R: Abort + Threads + Wait + Sync>(
+    rt: &R,
+    parts: Vec<Part>,
+    turns: u64,
+    script: &Script,
+) -> Vec<Part>
+    requires { AreParts parts.items × (length parts.items ≡ 2) }
+    ensures { AreParts result.items }
+{
+    thread::scope(
+        thread::scope_env(),
+        rt,
+        move |scope| -> Vec<Part>
+            requires { AreParts parts.items × (length parts.items ≡ 2) }
+            ensures { AreParts result.items }
+        { both_turned(scope, rt, parts, turns, script) },
+    )
+}
+
+/// The network once it was split in two, each part took so many turns on a thread of its own, and it was joined.
+fn turned_on_two_threads<R: Abort + AllocGlobal + Copy + Threads + Wait + Sync>(
+    trial: Trial<R>,
+    turns: u64,
+) -> Trial<R> {
+    let (rt, net, script) = trial.into_inner();
+    let parts = parts_of(&rt, net, 2);
+    let parts = on_two_threads(&rt, parts, turns, &script);
+    let net = joined(&rt, parts);
+    Trial { rt, net, script }
+}
+
+/// Of each lane between opposite nodes of sixteen, the words that were delivered, followed by those under way from the
+/// sink back, are those injected, in order.
+fn all_lanes_are_cut<R: Abort + AllocGlobal + Copy>(trial: &Trial<R>) {
+    for src in 0u8..16 {
+        let words = trial.words_to(src, 15 - src);
+        assert_eq!(trial.rt;
+            words.as_slice(),
+            words_of(src).as_slice(),
+            "from node {src}"
+        );
+    }
+}
+
+#[test]
+fn two_parts_on_two_threads_lose_nothing(rt: HostRuntime) {
+    let trial = turned_on_two_threads(opposite(rt, &[4, 4], 15), 20);
+    trial.has_injected(48);
+    all_lanes_are_cut(&trial);
+    trial.settled().has_delivered(48);
 }

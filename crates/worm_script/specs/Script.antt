@@ -24,11 +24,6 @@ abbrev pub lane_of : Act → Lane
 lane_of (Offer packet) = packet.lane
 lane_of (Close lane) = lane
 
--- how many flits it brings: one for each word of its packet, or the mark alone
-abbrev pub flit_count : Act → ℕ
-flit_count (Offer packet) = length packet.words
-flit_count (Close lane) = 1
-
 -- a packet has 1 to 32 words, as every packet has
 abbrev pub HasWords : Act → Type 0
 HasWords (Offer packet) = (1 ≤ length packet.words) × (length packet.words ≤ 32)

@@ -1,7 +1,7 @@
 //! A line of traffic: what a source is asked, and when.
 
 ghost use Rattle.std.specs.Prelude.{◌≡◌};
-ghost use Rattle.worm_script.specs.Script.{HasWords, flit_count, lane_of};
+ghost use Rattle.worm_script.specs.Script.{HasWords, lane_of};
 
 use worm_flit::{Lane, Packet};
 
@@ -22,16 +22,6 @@ impl Act {
         match self {
             Act::Offer(packet) => packet.lane(),
             Act::Close(lane) => *lane,
-        }
-    }
-
-    /// How many flits it brings: one for each word of its packet, or the mark alone.
-    pub fn flits(&self) -> u8
-        ensures { result ≡ flit_count self.now }
-    {
-        match self {
-            Act::Offer(packet) => packet.words().len() as u8,
-            Act::Close(_) => 1,
         }
     }
 

@@ -4,7 +4,7 @@ ghost use Rattle.worm_script.specs.Script.{AreInOrder, due, last_turn};
 
 use crate::due::Due;
 use crate::entry::Entry;
-use std::alloc::{AllocError, Global};
+use std::alloc::Global;
 use std::marker::Model;
 
 /// Why an entry was not added.
@@ -106,14 +106,6 @@ impl Script {
         lead_to_end(&mut self.gaps, self.lasts[source]);
         self.lasts[source] = self.entries.len();
         Ok(())
-    }
-
-    /// Takes memory ahead for so many entries more. `Err` where it is refused. Nothing that is seen changes.
-    pub fn make_room(&mut self, entries: usize) -> Result<(), AllocError>
-        ensures { self.new ≡ self.old }
-    {
-        self.gaps.reserve(entries)?;
-        self.entries.reserve(entries)
     }
 
     /// The entries, in order.

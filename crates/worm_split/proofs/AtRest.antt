@@ -12,12 +12,13 @@ use Rattle.worm_swalloc.proofs.SwitchPass.{get_or-replicate_same}
 use Rattle.worm_region.specs.Moves.{chosen_router}
 use Rattle.worm_region.specs.Replies.{Attempts}
 use Rattle.worm_region.specs.State.{router_at, with_router}
+use Rattle.worm_region.specs.Turns.{Each}
 use Rattle.worm_region.specs.Turns.{ComesInBy, lowest_owed}
 use Rattle.worm_region.specs.Workable.{IsWorkable}
 use Rattle.worm_region.proofs.NodeWritten.{with_router_same}
 use Rattle.worm_region.proofs.TurnInParts.{owed_lowest}
 use Rattle.worm_split.specs.PartState.{PartState}
-use Rattle.worm_split.specs.PartTurns.{EachOf, Gives, GivesCredit, NodePasses, SendsGrant, SendsGranted}
+use Rattle.worm_split.specs.PartTurns.{Gives, GivesCredit, NodePasses, SendsGrant, SendsGranted}
 use Rattle.worm_split.proofs.PartLoops.{of_rest}
 
 grant_none : (grants : List (Option SwGrant)) (x i : ℕ) (p : PartState) → grants ≡ replicate 7 None
@@ -44,7 +45,7 @@ gives_nothing : (p : PartState) (x o : ℕ) → o ≤ terminal (router_at p.net 
 gives_nothing p x o o_in owes =
     let none : None ≡ lowest_owed (router_at p.net x) o =
     owed_lowest (router_at p.net x) o None tt tt (λ v below. owes o v o_in below) in
-    subst (λ (vc : Option ℕ). EachOf (Gives x o) (option_to_list vc) p None p) none (refl, refl)
+    subst (λ (vc : Option ℕ). Each (Gives x o) (option_to_list vc) p None p) none (refl, refl)
 
 pub part_rests : (p : PartState) (x : ℕ) → IsWorkable p.net → x < node_count p.net.mesh → IsAtRest (router_at p.net x)
     → ComesInBy Attempts x p.net None p.net → NodePasses x p None p

@@ -8,13 +8,15 @@ use Rattle.worm_mesh.specs.Address.{node_count}
 use Rattle.worm_router.specs.Router.{width, after_gave}
 use Rattle.worm_region.specs.State.{NetState, router_at, with_router}
 use Rattle.worm_region.specs.Moves.{OwesTheSame}
+use Rattle.worm_region.specs.Turns.{Each}
 use Rattle.worm_region.specs.Turns.{lowest_owed}
 use Rattle.worm_region.specs.Workable.{IsWorkable}
 use Rattle.worm_region.proofs.LowestGiven.{Owing, gave_elsewhere, give_elsewhere, owing_more, owing_next}
 use Rattle.worm_region.proofs.LowestGiven.{owing_place, router_size}
 use Rattle.worm_split.specs.PartState.{PartState, IsSamePart}
-use Rattle.worm_split.specs.PartTurns.{EachOf, Gives, GivesCredit}
-use Rattle.worm_split.proofs.PartLoops.{of_more, of_one, same_on}
+use Rattle.worm_split.specs.PartTurns.{Gives, GivesCredit}
+use Rattle.worm_region.proofs.Passages.{each_one}
+use Rattle.worm_split.proofs.PartLoops.{of_more, same_on}
 
 -- What the other ports owe
 
@@ -48,7 +50,7 @@ gives_elsewhere x q c a b net x_in q_in c_in gives p v away within = elim gives 
 -- The ports below one are passed. A port whose credit came back is passed too: it still owes, and is not asked again in
 -- this turn.
 pub record Given (x : ℕ) (a b : PartState) (p : ℕ) : Type 0 where
-  pub each : EachOf (GivesCredit x) (range_with_len 0 p) a None b
+  pub each : Each (GivesCredit x) (range_with_len 0 p) a None b
   pub same : IsSamePart a b
 
 -- as far as one that owes none
@@ -56,15 +58,15 @@ pub given_still : (x : ℕ) (a b : PartState) (p : ℕ) → None ≡ lowest_owed
     → Given x a b (p + 1)
 given_still x a b p none given = record {
   each = of_more (GivesCredit x) p a b b given.each
-      (subst (λ (vc : Option ℕ). EachOf (Gives x p) (option_to_list vc) b None b) none (refl, refl));
+      (subst (λ (vc : Option ℕ). Each (Gives x p) (option_to_list vc) b None b) none (refl, refl));
   same = given.same;
 }
 
 one_gives : (x q c : ℕ) (b d : PartState) → Some c ≡ lowest_owed (router_at b.net x) q → Gives x q c b None d
     → GivesCredit x q b None d
 one_gives x q c b d lowest gives =
-    subst (λ (vc : Option ℕ). EachOf (Gives x q) (option_to_list vc) b None d) lowest
-    (of_one (Gives x q) c b d None gives)
+    subst (λ (vc : Option ℕ). Each (Gives x q) (option_to_list vc) b None d) lowest
+    (each_one (Gives x q) c b d None gives)
 
 -- how far the ports have come
 abbrev pub Gave : ℕ → PartState → PartState → ℕ → Type 0

@@ -11,8 +11,8 @@ use Rattle.worm_links.specs.declared.LinkCfg.{LinkCfg}
 use Rattle.worm_links.specs.Links.{MayCross}
 use Rattle.worm_theory.specs.Shape.{HasLane}
 use Rattle.worm_theory.specs.Sound.{Leaves}
-use Rattle.worm_shape.specs.Standing.{LeavesBy}
-use Rattle.worm_shape.proofs.LeavesWhereCrossed.{crosses_leaves}
+use Rattle.worm_theory.specs.Standing.{LeavesBy}
+use Rattle.worm_theory.proofs.LeavesWhereCrossed.{crosses_leaves}
 use Rattle.worm_region.specs.Shape.{net_shape}
 use Rattle.worm_region.specs.State.{NetState, IsFramed, shape}
 use Rattle.worm_split.specs.Ends.{IsLinkOf}

@@ -11,11 +11,11 @@ use Rattle.worm_region.specs.Owned.{owned_by}
 use Rattle.worm_region.specs.State.{NetState, link_at}
 use Rattle.worm_node.specs.NewNodes.{fresh_node}
 use Rattle.worm_node.specs.declared.node.Node.{Node}
-use Rattle.worm_region.specs.declared.own.Own.{Own}
+use Rattle.worm_region.specs.declared.owner.Owner.{Owner}
 use Rattle.worm_split.specs.declared.ends.End.{End}
 use Rattle.worm_split.specs.declared.ends.End.TheVariants.{Inner}
 use Rattle.worm_split.specs.declared.ends.Line.{Line}
-use Rattle.worm_split.specs.declared.making.Seat.{Seat}
+use Rattle.worm_split.specs.declared.memory.Seat.{Seat}
 use Rattle.worm_split.specs.Apart.{Apart, IsExchanged}
 use Rattle.worm_split.specs.Ends.{end_at, end_made, line_at}
 use Rattle.worm_split.specs.Exchange.{far_of, near_of, way_at}
@@ -43,7 +43,7 @@ module _ (O : NetState) (W w : ℕ) (lines : List Line) (kept new : Apart) (deal
     (seat : Seat) (is : IsSeat O lines seat) (new_nodes : List Node) (new_links : List LinkView) (new_ends : List End)
     (did : IsExchanged (record { worker = w; workers = W }) kept new seat.nodes.items new_nodes seat.links.items
     new_links seat.ends.items new_ends) where
-  abbrev pub own : Own
+  abbrev pub own : Owner
   own = record { worker = w; workers = W }
 
   later : (x : ℕ) → w + 1 ≤ x % W → owned_by own x ≡ false

@@ -11,11 +11,11 @@ use Rattle.worm_region.proofs.NewNet.{fresh_is}
 use Rattle.worm_region.specs.State.{NetState, IsNet, IsNodeOf}
 use Rattle.worm_region.specs.Workable.{IsWorkable}
 use Rattle.worm_node.specs.declared.node.Node.{Node}
-use Rattle.worm_region.specs.declared.own.Own.{Own}
+use Rattle.worm_region.specs.declared.owner.Owner.{Owner}
 use Rattle.worm_split.specs.declared.ends.End.{End}
 use Rattle.worm_split.specs.declared.ends.End.TheVariants.{Inner}
 use Rattle.worm_split.specs.declared.ends.Line.{Line}
-use Rattle.worm_split.specs.declared.making.Seat.{Seat}
+use Rattle.worm_split.specs.declared.memory.Seat.{Seat}
 use Rattle.worm_split.specs.Apart.{Apart, AreWays, ArePaired, IsExchanged, with_lists}
 use Rattle.worm_split.specs.PartState.{PartState, HasConfigOf, IsPart}
 use Rattle.worm_split.specs.Splits.{IsFirstPart, IsSeat, IsSplitOf, no_part, part_at, seat_state}
@@ -60,7 +60,7 @@ one_left {O} {W} {w} {lines} {kept} {seats} {parts} {room} rest seat so_far popp
     subst (λ (n : ℕ). DealSoFar O W lines n kept seats parts room) at so_far
 
 -- a worker's part once its seat's lists are exchanged
-abbrev pub dealt_state : Seat → Own → List Node → List LinkView → List End → PartState
+abbrev pub dealt_state : Seat → Owner → List Node → List LinkView → List End → PartState
 dealt_state seat own nodes links ends =
     record (seat_state seat own) { net = with_lists (seat_state seat own).net nodes links; ends = ends }
 

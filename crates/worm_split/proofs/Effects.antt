@@ -14,10 +14,11 @@ use Rattle.worm_region.specs.declared.fault.StepFault.{StepFault}
 use Rattle.worm_region.specs.declared.fault.StepFault.TheVariants.{Refused}
 use Rattle.worm_node.specs.declared.node.Node.{Node}
 use Rattle.worm_script.specs.declared.entry.Entry.{Entry}
+use Rattle.worm_region.specs.Turns.{Each}
 use Rattle.worm_split.specs.Effects.{HasAccepted, IsRefused, OneMore, SinksTakeOne, SourceTakes, SourcesTake}
 use Rattle.worm_script.specs.Script.{HaveWords}
 use Rattle.worm_split.specs.PartState.{PartState}
-use Rattle.worm_split.specs.PartTurns.{EachOf, NodeTurn, Turn}
+use Rattle.worm_split.specs.PartTurns.{NodeTurn, Turn}
 use Rattle.worm_split.proofs.Accepted.{accepted-none}
 use Rattle.worm_split.proofs.Alone.{Touches, no_more}
 use Rattle.worm_split.proofs.FirstAccepted.{IsSeated, seated_in}
@@ -178,7 +179,7 @@ module _ (entries : List Entry) (own : ℕ → Bool) where
 
   turns_from : (n from : ℕ) (old new : PartState) (fault : Option StepFault) → HaveWords entries →
       from + n ≡ node_count old.net.mesh → AllSeated from old.net →
-      EachOf (NodeTurn entries) (filter own (range_with_len from n)) old fault new →
+      Each (NodeTurn entries) (filter own (range_with_len from n)) old fault new →
       TurnsFrom entries own from old.net fault new.net
   turns_from zero from old new fault words count seated rests =
       subst (λ (f : Option StepFault). TurnsFrom entries own from old.net f new.net) (sym rests.0)
@@ -191,7 +192,7 @@ module _ (entries : List Entry) (own : ℕ → Bool) where
         let there : from < node_count old.net.mesh = omega arith in
         let turn = node_did entries from old in
         let seat = seated from (omega arith) there in
-        elim (subst (λ (xs : List ℕ). EachOf (NodeTurn entries) xs old fault new) first made) [
+        elim (subst (λ (xs : List ℕ). Each (NodeTurn entries) xs old fault new) first made) [
           | inl ended ↦ ends_at from old.net new.net fault mine there ended.0 (turn new fault words seat ended.1)
           | inr on ↦
               let here = turn on.0 None words seat on.1 in
@@ -206,7 +207,7 @@ module _ (entries : List Entry) (own : ℕ → Bool) where
         let past : filter own (range_with_len from (suc n)) ≡ rest = rw not_mine refl in
         skips_from from old.net new.net fault not_mine
         (turns_from n (from + 1) old new fault words (omega arith) (λ x above x_in. seated x (omega arith) x_in)
-        (subst (λ (xs : List ℕ). EachOf (NodeTurn entries) xs old fault new) past made))
+        (subst (λ (xs : List ℕ). Each (NodeTurn entries) xs old fault new) past made))
   ]
 
 module _ (p : PartState) (entries : List Entry) (fault : Option StepFault) (new : PartState)

@@ -6,7 +6,7 @@ use Rattle.worm_region.specs.Owned.{owned_by}
 use Rattle.worm_region.specs.State.{NetState, IsFramed, IsNodeOf, net_state}
 use Rattle.worm_node.specs.NewNodes.{fresh_node}
 use Rattle.worm_node.specs.declared.node.Node.{Node}
-use Rattle.worm_region.specs.declared.own.Own.{Own}
+use Rattle.worm_region.specs.declared.owner.Owner.{Owner}
 use Rattle.worm_wires.specs.Links.{LinkView}
 use Rattle.worm_mesh.specs.declared.mesh.LinkEnds.{LinkEnds}
 use Rattle.worm_split.specs.declared.ends.End.{End}
@@ -62,7 +62,7 @@ framed_with s nodes links framed all_nodes all_links each rooms = record {
   rooms = λ k there. rooms k (omega arith);
 }
 
-module _ (own : Own) (s : NetState) (ways : List LinkEnds) (nodes us vs : List Node) (links ls ms : List LinkView)
+module _ (own : Owner) (s : NetState) (ways : List LinkEnds) (nodes us vs : List Node) (links ls ms : List LinkView)
     (framed : IsFramed s) (other : IsFramed (with_lists s nodes links))
     (nodes_swapped : NodesSwapped own (length s.nodes) s.nodes nodes us vs)
     (links_swapped : LinksSwapped own ways (length s.links) s.links links ls ms) where
@@ -96,7 +96,7 @@ module _ (own : Own) (s : NetState) (ways : List LinkEnds) (nodes us vs : List N
   )
 
 -- What is exchanged fits as before.
-pub exchanged : (own : Own) (old kept : Apart) → old ≡ kept → (nodes us vs : List Node) (links ls ms : List LinkView)
+pub exchanged : (own : Owner) (old kept : Apart) → old ≡ kept → (nodes us vs : List Node) (links ls ms : List LinkView)
     (ends new_ends : List End) (lines : List Line) → Fits old → ArePaired kept nodes links ends
     → NodesSwapped own (length old.net.nodes) old.net.nodes nodes us vs
     → LinksSwapped own old.ways (length old.net.links) old.net.links links ls ms

@@ -28,9 +28,9 @@ use Rattle.worm_region.proofs.LinkWritten.{credits_there, out_there}
 use Rattle.worm_region.proofs.NewNet.{workable, stands_for}
 use Rattle.worm_region.proofs.AllOwned.{all_within}
 use Rattle.worm_region.proofs.StaysWorking.{sound_works}
-use Rattle.worm_parts.specs.Openings.{past_of}
-use Rattle.worm_parts.specs.Region.{Begins, HasPart}
-use Rattle.worm_parts.proofs.RegionQueues.{first_part}
+use Rattle.worm_theory.specs.Openings.{past_of}
+use Rattle.worm_theory.specs.Region.{Begins, HasPart}
+use Rattle.worm_theory.proofs.RegionQueues.{first_part}
 use Rattle.worm_split.specs.declared.ends.End.{End}
 use Rattle.worm_split.specs.declared.ends.End.TheVariants.{Inner}
 use Rattle.worm_split.specs.Apart.{AreWays}

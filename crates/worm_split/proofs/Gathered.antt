@@ -14,12 +14,12 @@ use Rattle.worm_theory.specs.Shape.{IsMesh}
 use Rattle.worm_theory.proofs.Places.{number_cases}
 use Rattle.worm_region.specs.State.{NetState, IsNet, network_of, shape}
 use Rattle.worm_region.specs.Owned.{owned_by}
-use Rattle.worm_region.specs.declared.own.Own.{Own}
+use Rattle.worm_region.specs.declared.owner.Owner.{Owner}
 use Rattle.worm_region.proofs.FrameKept.{framed_mesh}
-use Rattle.worm_parts.specs.Join.{Holds}
-use Rattle.worm_parts.specs.Region.{HasPart, Begins}
-use Rattle.worm_parts.specs.Openings.{past_of}
-use Rattle.worm_parts.proofs.RegionQueues.{first_part}
+use Rattle.worm_theory.specs.Join.{Holds}
+use Rattle.worm_theory.specs.Region.{HasPart, Begins}
+use Rattle.worm_theory.specs.Openings.{past_of}
+use Rattle.worm_theory.proofs.RegionQueues.{first_part}
 use Rattle.worm_split.specs.declared.ends.End.TheVariants.{Inner}
 use Rattle.worm_split.specs.declared.ends.Line.{Line}
 use Rattle.worm_split.specs.Apart.{AreWays}
@@ -126,7 +126,7 @@ module _ (parts : List PartState) (are : AreParts parts) (hold : (w : ℕ) → w
   has_part k = elim (cases_lt k workers) [
     | inl below ↦
         let p = part_at parts k in
-        subst (λ (own : Own). HasPart (shape opening) (network_of opening) (owned_by own) (part_network p)
+        subst (λ (own : Owner). HasPart (shape opening) (network_of opening) (owned_by own) (part_network p)
         (taken_by p) (returned_to p))
         (are.owns k below)
         (subst (λ (z : NetState). HasPart (shape z) (network_of z) (owned_by p.net.own) (part_network p)
@@ -162,7 +162,7 @@ module _ (parts : List PartState) (are : AreParts parts) (hold : (w : ℕ) → w
       AreEndsMade opening.mesh opening.channels opening.depth y o (past_of (shape opening)
       (network_of opening) y o x) line.out line.into
   made y o x linked apart =
-      let all = ap (λ (own : Own). own.workers) (are.owns 0 are.some) in
+      let all = ap (λ (own : Owner). own.workers) (are.owns 0 are.some) in
       first.made y o x linked (λ e. apart (subst (λ (n : ℕ). y % n ≡ x % n) all e))
 
   -- a worker's end of a link is one of them, whatever went over it
@@ -180,7 +180,7 @@ module _ (parts : List PartState) (are : AreParts parts) (hold : (w : ℕ) → w
       (line_at p.lines (links_before z.mesh y o))) (end_of p y o)) back had in
       let by_lines = subst (λ (lines : List Line). IsSameEnd (end_made (owned_by p.net.own y) (owned_by p.net.own x)
       (line_at lines k)) (end_of p y o)) (are.one_split w below) by_opening in
-      subst (λ (own : Own). IsSameEnd (end_made (owned_by own y) (owned_by own x) (line_at
+      subst (λ (own : Owner). IsSameEnd (end_made (owned_by own y) (owned_by own x) (line_at
       (part_at parts 0).lines k)) (end_of p y o)) (are.owns w below) by_lines
 
   pub owner_below : (x : ℕ) → x % workers < workers

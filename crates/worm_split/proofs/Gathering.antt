@@ -6,7 +6,7 @@ use Rattle.std.proofs.lemmas.Bool.{cases_eq}
 use Rattle.worm_region.specs.Owned.{owned_by}
 use Rattle.worm_region.specs.State.{IsFramed, link_at}
 use Rattle.worm_node.specs.declared.node.Node.{Node}
-use Rattle.worm_region.specs.declared.own.Own.{Own}
+use Rattle.worm_region.specs.declared.owner.Owner.{Owner}
 use Rattle.worm_split.specs.declared.ends.End.{End}
 use Rattle.worm_split.specs.Apart.{Apart, IsPutBack}
 use Rattle.worm_split.specs.Ends.{end_at, line_at}
@@ -34,10 +34,10 @@ module _ (parts : List PartState) (are : AreParts parts) (n : ℕ) (there : n < 
   W = length parts
 
   owned_here : (x : ℕ) → x % W ≡ n → owned_by p.net.own x ≡ true
-  owned_here x e = ap (λ (own : Own). owned_by own x) (are.owns n there) ∙ eq-eqb (x % W) n e
+  owned_here x e = ap (λ (own : Owner). owned_by own x) (are.owns n there) ∙ eq-eqb (x % W) n e
 
   owned_not : (x : ℕ) → (x % W ≡ n → ⊥) → owned_by p.net.own x ≡ false
-  owned_not x apart = ap (λ (own : Own). owned_by own x) (are.owns n there) ∙ not_same (x % W) n apart
+  owned_not x apart = ap (λ (own : Owner). owned_by own x) (are.owns n there) ∙ not_same (x % W) n apart
 
   owner_here : (x : ℕ) → x % W ≡ n → owner_of parts x ≡ p
   owner_here x e = ap (λ (w : ℕ). part_at parts w) e

@@ -25,8 +25,8 @@ use Rattle.worm_region.specs.Workable.{owned, EndsElsewhere}
 use Rattle.worm_wires.specs.declared.wiring.PortLinks.{PortLinks}
 use Rattle.worm_region.proofs.PlacesThere.{net_place}
 use Rattle.worm_region.proofs.AsListed.{buffer_there, record_there}
-use Rattle.worm_parts.specs.Openings.{past_of}
-use Rattle.worm_parts.proofs.Regions.{push_part}
+use Rattle.worm_theory.specs.Openings.{past_of}
+use Rattle.worm_theory.proofs.Regions.{push_part}
 use Rattle.worm_split.specs.declared.ends.End.{End}
 use Rattle.worm_split.specs.declared.ends.End.TheVariants.{Leaving, Entering}
 use Rattle.worm_split.specs.Ends.{FlitPushed, CreditPushed, MayGo, MayGive, sent_on}

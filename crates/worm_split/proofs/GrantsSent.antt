@@ -11,16 +11,17 @@ use Rattle.worm_region.specs.Moves.{chosen_router}
 use Rattle.worm_region.specs.Prepared.{Prepares, allocated_at}
 use Rattle.worm_region.specs.Replies.{Attempts}
 use Rattle.worm_region.specs.State.{NetState, router_at, with_router}
+use Rattle.worm_region.specs.Turns.{Each, ◌and_then◌}
 use Rattle.worm_region.specs.Turns.{Allocates, Chooses, ComesInBy}
 use Rattle.worm_region.specs.declared.fault.StepFault.{StepFault}
 use Rattle.worm_split.specs.PartState.{PartState, IsSamePart}
-use Rattle.worm_split.specs.PartTurns.{EachOf, PartPassage, Sends, SendsGrant, SendsGranted, SendsGrants, Within}
-use Rattle.worm_split.specs.PartTurns.{◌then◌}
-use Rattle.worm_split.proofs.PartLoops.{of_more, of_one, same_still}
+use Rattle.worm_split.specs.PartTurns.{PartPassage, Sends, SendsGrant, SendsGranted, SendsGrants, Within}
+use Rattle.worm_region.proofs.Passages.{each_one}
+use Rattle.worm_split.proofs.PartLoops.{of_more, same_still}
 
 -- the ports below one have sent what was granted
 pub record SentBelow (x : ℕ) (grants : List (Option SwGrant)) (a b : PartState) (n : ℕ) : Type 0 where
-  pub each : EachOf (SendsGrant grants x) (range_with_len 0 n) a None b
+  pub each : Each (SendsGrant grants x) (range_with_len 0 n) a None b
   pub same : IsSamePart a b
 
 module _ (x : ℕ) (grants : List (Option SwGrant)) where
@@ -40,15 +41,15 @@ module _ (x : ℕ) (grants : List (Option SwGrant)) where
   one_sent p vc b c fault grant sends =
       let g = grant.0 in
       let here : Sends x p g.vc b fault c = subst (λ (v : ℕ). Sends x p v b fault c) (sym grant.2) sends in
-      let one : EachOf (λ (h : SwGrant). Sends x p h.vc) (option_to_list (Some g)) b fault c =
-      of_one (λ (h : SwGrant). Sends x p h.vc) g b c fault here in
-      subst (λ (o : Option SwGrant). EachOf (λ (h : SwGrant). Sends x p h.vc) (option_to_list o) b fault c)
+      let one : Each (λ (h : SwGrant). Sends x p h.vc) (option_to_list (Some g)) b fault c =
+      each_one (λ (h : SwGrant). Sends x p h.vc) g b c fault here in
+      subst (λ (o : Option SwGrant). Each (λ (h : SwGrant). Sends x p h.vc) (option_to_list o) b fault c)
       (sym grant.1) one
 
 -- what was prepared, and then what follows the pass of the switch allocator
 pub prepared : (x granted : ℕ) (P : PartPassage) (a b c : PartState) (fault : Option StepFault)
     → Prepares x granted a.net b.net → ((s : NetState) → Chooses x granted s b.net → P (record a { net = s }) fault c)
-    → (Within (ComesInBy Attempts x) then Within (Allocates x) then P) a fault c
+    → (Within (ComesInBy Attempts x) and_then Within (Allocates x) and_then P) a fault c
 prepared x granted P a b c fault done follows =
     let s = allocated_at x done.came in
     inr (

@@ -18,10 +18,10 @@ use Rattle.worm_region.specs.Turns.{Passage, AsksSourceBy, ComesInBy, TakesCredi
 use Rattle.worm_region.specs.Turns.{FeedsClassesBy, RoutesChannelsBy}
 use Rattle.worm_region.specs.Workable.{IsWorkable}
 use Rattle.worm_region.specs.Owned.{owned_by}
-use Rattle.worm_region.specs.declared.own.Own.{Own}
+use Rattle.worm_region.specs.declared.owner.Owner.{Owner}
 use Rattle.worm_script.specs.declared.entry.Entry.{Entry}
 use Rattle.worm_region.proofs.PassIsGrants.{IsKeptByGrants, allocated_keeps, chosen_apart}
-use Rattle.worm_parts.specs.Region.{HasPart}
+use Rattle.worm_theory.specs.Region.{HasPart}
 use Rattle.worm_split.specs.declared.ends.End.{End}
 use Rattle.worm_split.specs.declared.ends.End.TheVariants.{Inner, Leaving, Entering}
 use Rattle.worm_split.specs.Ends.{IsSameEnd, end_made, end_at, line_at, seen_by, taken_on, returned_on}
@@ -54,14 +54,14 @@ module _ (p : PartState) (part : IsPart p) where
           depth = config.depth ∙ part.config.depth;
           names = config.names ∙ part.config.names;
         };
-        worker = subst (λ (w : Own). w.worker < w.workers) (sym config.own) part.worker;
+        worker = subst (λ (w : Owner). w.worker < w.workers) (sym config.own) part.worker;
         made = rw config.own part.made;
         all_ends = part.all_ends ∙ ap link_count (sym config.mesh);
         ends = λ y o x linked.
             let line = line_at p.lines (links_before p.opening.mesh y o) in
             let first = subst (λ (f : ℕ → ℕ → End). IsSameEnd (end_made (owns p y) (owns p x) line) (f y o)) ends
             (part.ends y o x linked) in
-            subst (λ (w : Own). IsSameEnd (end_made (owned_by w y) (owned_by w x) line)
+            subst (λ (w : Owner). IsSameEnd (end_made (owned_by w y) (owned_by w x) line)
             (end_of (record p { net = net }) y o)) (sym config.own) first;
         holds =
             let Holds : (ℕ → ℕ → End) → Type 0 =
@@ -69,7 +69,7 @@ module _ (p : PartState) (part : IsPart p) where
             (λ y o. taken_on (f y o)) (λ y o. returned_on (f y o)) in
             let first = subst Holds ends inside.holds in
             let f = end_of (record p { net = net }) in
-            subst (λ (w : Own). HasPart (shape p.opening) (network_of p.opening) (owned_by w)
+            subst (λ (w : Owner). HasPart (shape p.opening) (network_of p.opening) (owned_by w)
             (seen_by f (network_of net)) (λ y o. taken_on (f y o)) (λ y o. returned_on (f y o)))
             (sym config.own) first;
       }

@@ -17,9 +17,9 @@ use Rattle.worm_region.specs.State.{NetState}
 use Rattle.worm_wires.specs.Links.{LinkView, blank_link}
 use Rattle.worm_region.specs.State.{network_of, shape}
 use Rattle.worm_region.proofs.Room.{credits_counted, bounded, counted}
-use Rattle.worm_parts.specs.Join.{Holds}
-use Rattle.worm_parts.specs.Whole.{AreQueues, link_of as link_joined, line_of as line_joined, whole}
-use Rattle.worm_parts.proofs.Regions.{parts_hold}
+use Rattle.worm_theory.specs.Join.{Holds}
+use Rattle.worm_theory.specs.Whole.{AreQueues, link_of as link_joined, line_of as line_joined, whole}
+use Rattle.worm_theory.proofs.Regions.{parts_hold}
 use Rattle.worm_split.specs.Apart.{Apart}
 use Rattle.worm_split.specs.Joins.{AreEmptied, AreParts, IsGathered, owner_of}
 use Rattle.worm_split.specs.PartState.{PartState, part_network, returned_to, taken_by}

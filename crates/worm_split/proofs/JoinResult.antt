@@ -12,8 +12,8 @@ use Rattle.worm_theory.specs.PacketCut.{PacketsHold}
 use Rattle.worm_theory.proofs.Marks.{nothing_more_grown}
 use Rattle.worm_region.specs.State.{NetState, IsNet, network_of, shape}
 use Rattle.worm_wires.specs.Links.{LinkView}
-use Rattle.worm_region.specs.declared.own.Own.{Own}
-use Rattle.worm_parts.proofs.Regions.{parts_sinks, parts_sources}
+use Rattle.worm_region.specs.declared.owner.Owner.{Owner}
+use Rattle.worm_theory.proofs.Regions.{parts_sinks, parts_sources}
 use Rattle.worm_split.specs.Apart.{Apart}
 use Rattle.worm_split.specs.Ends.{line_at}
 use Rattle.worm_split.specs.Exchange.{way_at}
@@ -90,7 +90,7 @@ module _ (parts : List PartState) (are : AreParts parts) (kept : Apart) (gathere
       let each = holds_each parts are kept gathered links emptied in
       let near = are.owns (y % length parts) (owner_below parts are each y) in
       let far = are.owns (x % length parts) (owner_below parts are each x) in
-      ap (λ (own : Own). own.worker) (sym near ∙ (e ∙ far))
+      ap (λ (own : Owner). own.worker) (sym near ∙ (e ∙ far))
 
   same_owner : (y x : ℕ) → y % length parts ≡ x % length parts → (owner_of parts y).net.own ≡ (owner_of parts x).net.own
   same_owner y x e = ap (λ (w : ℕ). (part_at parts w).net.own) e

@@ -20,9 +20,9 @@ use Rattle.worm_region.specs.declared.step.Moved.{Moved}
 use Rattle.worm_region.specs.declared.step.Moved.TheVariants.{Done, Idle}
 use Rattle.worm_region.specs.declared.fault.StepFault.{StepFault}
 use Rattle.worm_region.specs.declared.fault.StepFault.TheVariants.{NoSuchPlace, Refused, NoMemory}
-use Rattle.worm_parts.specs.Region.{HasPart}
+use Rattle.worm_theory.specs.Region.{HasPart}
 use Rattle.worm_theory.specs.Steps.{node_of}
-use Rattle.worm_parts.proofs.Regions.{step_part}
+use Rattle.worm_theory.proofs.Regions.{step_part}
 use Rattle.worm_split.specs.declared.ends.End.{End}
 use Rattle.worm_split.specs.Ends.{seen_by}
 use Rattle.worm_split.proofs.Within.{Sees, seen_after, seen_enabled}

@@ -46,3 +46,4 @@ pub mod PortsAsked
 pub mod OwnNodes
 pub mod Sent
 pub mod Placed
+pub mod StillParts

@@ -11,6 +11,7 @@ use Rattle.worm_region.specs.Replies.{Attempts}
 use Rattle.worm_script.specs.Script.{begun_at, lane_of}
 use Rattle.worm_region.specs.State.{NetState, router_at, sink_at, source_at}
 use Rattle.worm_wires.specs.Links.{LinkView}
+use Rattle.worm_region.specs.Turns.{◌and_then◌}
 use Rattle.worm_region.specs.Turns.{Allocates, ComesInBy, Passage, lowest_owed, mesh_ports}
 use Rattle.worm_region.specs.declared.fault.StepFault.{StepFault}
 use Rattle.worm_region.specs.declared.fault.StepFault.TheVariants.{Refused}
@@ -19,7 +20,7 @@ use Rattle.worm_split.specs.Effects.{HasAccepted, OneMore, Refuses, SourceTakes,
 use Rattle.worm_script.specs.Script.{HaveWords}
 use Rattle.worm_script.specs.Script.{HasWords}
 use Rattle.worm_split.specs.PartState.{PartState}
-use Rattle.worm_split.specs.PartTurns.{◌then◌, Gives, GivesCredit, GivesCredits, NodeTurn, PartPassage}
+use Rattle.worm_split.specs.PartTurns.{Gives, GivesCredit, GivesCredits, NodeTurn, PartPassage}
 use Rattle.worm_split.specs.PartTurns.{PullsCredit, PullsCredits, PullsFlit, PullsFlits, SendsGranted, Within}
 use Rattle.worm_split.proofs.Accepted.{same_source, same_then}
 use Rattle.worm_split.proofs.Alone.{IsQuiet, Passed, Quiet, Touches, allocates_quietly, comes_in_quietly, gives_quietly}
@@ -98,7 +99,7 @@ gives_credits x old =
 
 -- one flit at most comes, before or after what brings none
 quietly_then : (x : ℕ) (P Q : PartPassage) → TellsOf (IsQuiet x) P → TellsOf (IsPassed x) Q
-    → TellsOf (IsPassed x) (P then Q)
+    → TellsOf (IsPassed x) (P and_then Q)
 quietly_then x P Q quiet passes old new fault made there = elim made [
   | inl ended ↦ passed_quietly x old.net new.net fault (quiet old new fault ended.1 there)
   | inr on ↦
@@ -108,7 +109,7 @@ quietly_then x P Q quiet passes old new fault made there = elim made [
 ]
 
 then_quietly : (x : ℕ) (P Q : PartPassage) → TellsOf (IsPassed x) P → TellsOf (IsQuiet x) Q
-    → TellsOf (IsPassed x) (P then Q)
+    → TellsOf (IsPassed x) (P and_then Q)
 then_quietly x P Q passes quiet old new fault made there = elim made [
   | inl ended ↦ passes old new fault ended.1 there
   | inr on ↦
@@ -121,11 +122,11 @@ then_quietly x P Q passes quiet old new fault made there = elim made [
 abbrev Follows : ℕ → PartPassage
 Follows x =
     PullsCredits x
-    then PullsFlits x
-    then Within (ComesInBy Attempts x)
-    then Within (Allocates x)
-    then SendsGranted x
-    then GivesCredits x
+    and_then PullsFlits x
+    and_then Within (ComesInBy Attempts x)
+    and_then Within (Allocates x)
+    and_then SendsGranted x
+    and_then GivesCredits x
 
 follows : (x : ℕ) → TellsOf (IsPassed x) (Follows x)
 follows x =

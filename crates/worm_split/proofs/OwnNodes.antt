@@ -9,7 +9,7 @@ use Rattle.std.specs.List.{range_with_len}
 use Rattle.std.specs.Prelude.{filter}
 use Rattle.worm_region.proofs.Passages.{range_more}
 use Rattle.worm_region.specs.Owned.{owned_by}
-use Rattle.worm_region.specs.declared.own.Own.{Own}
+use Rattle.worm_region.specs.declared.owner.Owner.{Owner}
 
 -- two numbers of one remainder are a divisor apart
 apart : (y n count : ℕ) → y % count ≡ n % count → y < n → y + count ≤ n
@@ -26,7 +26,7 @@ apart y n count same below = elim (cases_lt (y / count) (n / count)) [
       omega (arith, less, low, high, same, below)
 ]
 
-module _ (own : Own) where
+module _ (own : Owner) where
   -- a number that is no more than a divisor below an own node's is no own node's
   pub none_near : (n y : ℕ) → n % own.workers ≡ own.worker → y < n → n < y + own.workers → owned_by own y ≡ false
   none_near n y mine below near =

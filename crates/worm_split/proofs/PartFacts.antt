@@ -15,10 +15,10 @@ use Rattle.worm_links.specs.Links.{TxView, RxView, CreditTxView, CreditRxView}
 use Rattle.worm_region.specs.Shape.{net_shape}
 use Rattle.worm_region.specs.State.{NetState, IsSameConfig, shape, network_of}
 use Rattle.worm_region.specs.Owned.{owned_by}
-use Rattle.worm_region.specs.declared.own.Own.{Own}
+use Rattle.worm_region.specs.declared.owner.Owner.{Owner}
 use Rattle.worm_region.proofs.FrameKept.{framed_mesh}
-use Rattle.worm_parts.specs.Region.{HasPart}
-use Rattle.worm_parts.specs.Openings.{past_of}
+use Rattle.worm_theory.specs.Region.{HasPart}
+use Rattle.worm_theory.specs.Openings.{past_of}
 use Rattle.worm_split.specs.declared.ends.End.{End}
 use Rattle.worm_split.specs.declared.ends.End.TheVariants.{Inner, Leaving, Entering}
 use Rattle.worm_split.specs.Ends.{IsSameEnd, AreEndsMade, end_made, line_at, seen_by, taken_on, returned_on}
@@ -160,7 +160,7 @@ module _ (p : PartState) (part : IsPart p) where
             let had = part.ends y q z linked in
             let made = end_made (owns p y) (owns p z) (line_at p.lines (links_before p.opening.mesh y q)) in
             let Same : End → Type 0 = λ k. IsSameEnd made k in
-            subst (λ (w : Own). IsSameEnd (end_made (owned_by w y) (owned_by w z)
+            subst (λ (w : Owner). IsSameEnd (end_made (owned_by w y) (owned_by w z)
             (line_at p.lines (links_before p.opening.mesh y q))) (end_of (with_end p x o e net) y q))
             (sym config.own)
             (subst Same (sym (new y q)) (elim (place_cases y q x o) [
@@ -173,7 +173,7 @@ module _ (p : PartState) (part : IsPart p) where
             λ f. HasPart (shape p.opening) (network_of p.opening) (owns p) (seen_by f (network_of net))
             (λ y q. taken_on (f y q)) (λ y q. returned_on (f y q)) in
             let new_ends = end_of (with_end p x o e net) in
-            subst (λ (w : Own). HasPart (shape p.opening) (network_of p.opening) (owned_by w)
+            subst (λ (w : Owner). HasPart (shape p.opening) (network_of p.opening) (owned_by w)
             (seen_by new_ends (network_of net)) (λ y q. taken_on (new_ends y q))
             (λ y q. returned_on (new_ends y q)))
             (sym config.own) (subst Holds ends holds);

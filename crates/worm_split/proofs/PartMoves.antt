@@ -10,10 +10,10 @@ use Rattle.worm_links.specs.Links.{TxView, RxView, CreditTxView, CreditRxView, M
 use Rattle.worm_mesh.specs.Address.{neighbour_of}
 use Rattle.worm_region.specs.Shape.{net_shape}
 use Rattle.worm_region.specs.State.{NetState, IsSameConfig, shape, network_of}
-use Rattle.worm_parts.specs.Region.{HasPart, among}
-use Rattle.worm_parts.specs.Openings.{past_of}
-use Rattle.worm_parts.proofs.Regions.{pull_part, step_part}
-use Rattle.worm_parts.proofs.RegionQueues.{pull_credit_region}
+use Rattle.worm_theory.specs.Region.{HasPart, among}
+use Rattle.worm_theory.specs.Openings.{past_of}
+use Rattle.worm_theory.proofs.Regions.{pull_part, step_part}
+use Rattle.worm_theory.proofs.RegionQueues.{pull_credit_region}
 use Rattle.worm_split.specs.declared.ends.End.{End}
 use Rattle.worm_split.specs.declared.ends.End.TheVariants.{Leaving, Entering}
 use Rattle.worm_split.specs.Ends.{IsSameEnd, seen_by, taken_on, returned_on}

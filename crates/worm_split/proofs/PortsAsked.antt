@@ -8,10 +8,11 @@ use Rattle.worm_flit.specs.SmallSet.{has, IsFirst}
 use Rattle.worm_flit.proofs.SmallSets.{has_none}
 use Rattle.worm_mesh.specs.Address.{neighbour_of}
 use Rattle.worm_mesh.proofs.Neighbours.{neighbour_of-none, no_port}
+use Rattle.worm_region.specs.Turns.{Each}
 use Rattle.worm_region.specs.Turns.{mesh_ports}
 use Rattle.worm_region.proofs.SetWalked.{IsOut, Walked, number_taken, walked_all, walked_more, walked_start}
 use Rattle.worm_split.specs.PartState.{PartState, IsSamePart}
-use Rattle.worm_split.specs.PartTurns.{EachOf, PartPassage, PullsCredit, PullsFlit}
+use Rattle.worm_split.specs.PartTurns.{PartPassage, PullsCredit, PullsFlit}
 use Rattle.worm_split.proofs.PartLoops.{of_more, of_rest, same_on, same_still}
 
 -- a port may be asked for nothing, and one behind those of the mesh can be asked for nothing else
@@ -44,7 +45,7 @@ asks_flits x = record {
 
 -- the ports of the mesh below one were asked
 pub record AskedBelow (P : ℕ → PartPassage) (a b : PartState) (n : ℕ) : Type 0 where
-  pub each : EachOf P (range_with_len 0 (2 * length a.net.mesh - (2 * length a.net.mesh - n))) a None b
+  pub each : Each P (range_with_len 0 (2 * length a.net.mesh - (2 * length a.net.mesh - n))) a None b
   pub same : IsSamePart a b
 
 -- how far the ports have come
@@ -56,7 +57,7 @@ module _ (P : ℕ → PartPassage) (asks : Asks P) (a : PartState) where
   asked_start all =
       let none : 0 ≡ 2 * length a.net.mesh - (2 * length a.net.mesh - 0) = omega arith in
       walked_start (record {
-        each = subst (λ (n : ℕ). EachOf P (range_with_len 0 n) a None a) none (refl, refl);
+        each = subst (λ (n : ℕ). Each P (range_with_len 0 n) a None a) none (refl, refl);
         same = same_still a;
       })
       (λ p past few. absurd (omega arith)) (λ p few. tt)
@@ -69,14 +70,14 @@ module _ (P : ℕ → PartPassage) (asks : Asks P) (a : PartState) where
       | inl within ↦
           let now : 2 * length a.net.mesh - (2 * length a.net.mesh - p) ≡ p = omega arith in
           let then : p + 1 ≡ 2 * length a.net.mesh - (2 * length a.net.mesh - (p + 1)) = omega arith in
-          subst (λ (n : ℕ). EachOf P (range_with_len 0 n) a None c) then
-          (of_more P p a b c (subst (λ (n : ℕ). EachOf P (range_with_len 0 n) a None b) now asked.each) pulls)
+          subst (λ (n : ℕ). Each P (range_with_len 0 n) a None c) then
+          (of_more P p a b c (subst (λ (n : ℕ). Each P (range_with_len 0 n) a None b) now asked.each) pulls)
       | inr past ↦
           let mesh = ap (λ (m : List ℕ). length m) asked.same.config.mesh in
           let kept : 2 * length a.net.mesh - (2 * length a.net.mesh - p)
           ≡ 2 * length a.net.mesh - (2 * length a.net.mesh - (p + 1)) = omega arith in
-          subst (λ (n : ℕ). EachOf P (range_with_len 0 n) a None c) kept
-          (subst (λ (q : PartState). EachOf P (range_with_len 0 (2 * length a.net.mesh - (2 * length a.net.mesh - p))) a
+          subst (λ (n : ℕ). Each P (range_with_len 0 n) a None c) kept
+          (subst (λ (q : PartState). Each P (range_with_len 0 (2 * length a.net.mesh - (2 * length a.net.mesh - p))) a
           None q) (sym (asks.behind p b c (omega arith) pulls)) asked.each)
     ];
     same = same_on a b c asked.same same;
@@ -89,7 +90,7 @@ module _ (P : ℕ → PartPassage) (asks : Asks P) (a : PartState) where
       (asked_one b c port pulls same) (λ p above few _. tt)
 
   -- all were asked
-  pub asked_all : (b : PartState) (left : ℕ) → Asked P a b left → left ≡ 0 → EachOf P (mesh_ports a.net) a None b
+  pub asked_all : (b : PartState) (left : ℕ) → Asked P a b left → left ≡ 0 → Each P (mesh_ports a.net) a None b
   asked_all b left asked none =
       of_rest P (2 * length a.net.mesh - (2 * length a.net.mesh - 8)) (2 * length a.net.mesh) a b (omega arith)
       (walked_all (λ p few _ _. asked_one b b p (asks.still p b) (same_still b)) asked

@@ -18,6 +18,7 @@ use Rattle.worm_region.specs.Replies.{Replies}
 use Rattle.worm_region.specs.State.{NetState, link_at, node_at, router_at, sink_at, source_at, with_link, with_node}
 use Rattle.worm_region.specs.State.{with_router}
 use Rattle.worm_wires.specs.Links.{LinkView}
+use Rattle.worm_region.specs.Turns.{Each}
 use Rattle.worm_region.specs.Turns.{fault_of}
 use Rattle.worm_region.specs.declared.fault.StepFault.{StepFault}
 use Rattle.worm_region.specs.declared.fault.StepFault.TheVariants.{NoMemory, NoSuchPlace, Refused}
@@ -26,7 +27,7 @@ use Rattle.worm_region.specs.declared.step.Moved.{Moved}
 use Rattle.worm_region.specs.declared.step.Moved.TheVariants.{Done, Idle}
 use Rattle.worm_split.specs.Effects.{HaveTheSame, OneMore}
 use Rattle.worm_split.specs.PartState.{PartState}
-use Rattle.worm_split.specs.PartTurns.{EachOf, PartPassage, Sends, SendsGrant, SendsGranted}
+use Rattle.worm_split.specs.PartTurns.{PartPassage, Sends, SendsGrant, SendsGranted}
 use Rattle.worm_split.proofs.Accepted.{same_source}
 use Rattle.worm_split.proofs.Alone.{IsUnrefused, Passed, Quiet, none_refuses, passed_quietly, put_at, put_there}
 use Rattle.worm_split.proofs.Alone.{put_touches, quiet_then, router_quiet, still_quiet, then_quiet}
@@ -155,7 +156,7 @@ record SentFrom (x : ℕ) (grants : List (Option SwGrant)) (from : ℕ) (old : N
   quiet : NoneHome grants from old → SinkStays x old new
 
 of_only : {A : Type 0} (P : A → PartPassage) (a : A) (old new : PartState) (fault : Option StepFault) →
-    EachOf P (a ∷ []) old fault new → P a old fault new
+    Each P (a ∷ []) old fault new → P a old fault new
 of_only P a old new fault made = elim made [
   | inl ended ↦ ended.1
   | inr on ↦
@@ -176,7 +177,7 @@ module _ (x : ℕ) (grants : List (Option SwGrant))
       AllHold grants p (router_at old.net x) → SendsGrant grants x p old fault new → PortSent p old.net fault new.net
   port_sent p old new fault there hold made = by_grant (slice_index_or grants p None) refl made where
     by_grant : (o : Option SwGrant) → slice_index_or grants p None ≡ o →
-        EachOf (λ (g : SwGrant). Sends x p g.vc) (option_to_list o) old fault new → PortSent p old.net fault new.net
+        Each (λ (g : SwGrant). Sends x p g.vc) (option_to_list o) old fault new → PortSent p old.net fault new.net
     by_grant None is rests = inl (is, rests.0, ap (λ (q : PartState). q.net) rests.1)
     by_grant (Some g) is sends =
         inr (
@@ -256,7 +257,7 @@ module _ (x : ℕ) (grants : List (Option SwGrant))
       ]
 
   sent_from : (n from : ℕ) (old new : PartState) (fault : Option StepFault) → x < length old.net.nodes →
-      AllHold grants from (router_at old.net x) → EachOf (SendsGrant grants x) (range_with_len from n) old fault new →
+      AllHold grants from (router_at old.net x) → Each (SendsGrant grants x) (range_with_len from n) old fault new →
       SentFrom x grants from old.net fault new.net
   sent_from zero from old new fault there hold rests =
       subst (λ (f : Option StepFault). SentFrom x grants from old.net f new.net) (sym rests.0)

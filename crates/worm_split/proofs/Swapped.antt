@@ -8,7 +8,7 @@ use Rattle.worm_mesh.specs.declared.mesh.LinkEnds.{LinkEnds}
 use Rattle.worm_region.specs.Owned.{owned_by}
 use Rattle.worm_wires.specs.Links.{LinkView, blank_link}
 use Rattle.worm_node.specs.declared.node.Node.{Node}
-use Rattle.worm_region.specs.declared.own.Own.{Own}
+use Rattle.worm_region.specs.declared.owner.Owner.{Owner}
 use Rattle.worm_split.specs.declared.ends.End.{End}
 use Rattle.worm_split.specs.declared.ends.End.TheVariants.{Inner}
 use Rattle.worm_split.specs.declared.ends.Line.{Line}
@@ -38,7 +38,7 @@ all_inner_far true far = refl
 all_inner_far false true = refl
 all_inner_far false false = refl
 
-module _ (own : Own) (xs ys us vs : List Node) (swapped : NodesSwapped own (length xs) xs ys us vs) where
+module _ (own : Owner) (xs ys us vs : List Node) (swapped : NodesSwapped own (length xs) xs ys us vs) where
   -- the two lists at a place: as the other had it, where the place is the worker's
   pub nodes_now : (x : ℕ) (n : Node)
       → (slice_index_or us x n ≡ cond (owned_by own x) (slice_index_or ys x n) (slice_index_or xs x n))
@@ -55,7 +55,7 @@ module _ (own : Own) (xs ys us vs : List Node) (swapped : NodesSwapped own (leng
         )
   ]
 
-module _ (own : Own) (ways : List LinkEnds) (xs ys us vs : List LinkView) (swapped : LinksSwapped own ways
+module _ (own : Owner) (ways : List LinkEnds) (xs ys us vs : List LinkView) (swapped : LinksSwapped own ways
     (length xs) xs ys us vs) where
   pub record LinkNow (k : ℕ) : Type 0 where
     pub flits : (link_in us k).flits ≡ cond (far_of own ways k) (link_in ys k).flits (link_in xs k).flits
@@ -99,7 +99,7 @@ module _ (own : Own) (ways : List LinkEnds) (xs ys us vs : List LinkView) (swapp
       let one = swapped.one_length in
       (done.room m (mine k below) (other k (omega arith)), done.other_room m (mine k below) (other k (omega arith)))
 
-module _ (own : Own) (ways : List LinkEnds) (xs : List Line) (ys : List End) (us : List Line) (vs : List End)
+module _ (own : Owner) (ways : List LinkEnds) (xs : List Line) (ys : List End) (us : List Line) (vs : List End)
     (swapped : EndsSwapped own ways (length xs) xs ys us vs) where
   pub record EndNow (k : ℕ) : Type 0 where
     pub own_end : end_at vs k ≡ cond (near_of own ways k) (cond (far_of own ways k) (end_at ys k) (line_at xs k).out)

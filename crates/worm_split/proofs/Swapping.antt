@@ -9,7 +9,7 @@ use Rattle.worm_mesh.specs.declared.mesh.LinkEnds.{LinkEnds}
 use Rattle.worm_region.specs.Owned.{owned_by}
 use Rattle.worm_wires.specs.Links.{LinkView}
 use Rattle.worm_node.specs.declared.node.Node.{Node}
-use Rattle.worm_region.specs.declared.own.Own.{Own}
+use Rattle.worm_region.specs.declared.owner.Owner.{Owner}
 use Rattle.worm_split.specs.declared.ends.End.{End}
 use Rattle.worm_split.specs.declared.ends.Line.{Line}
 use Rattle.worm_split.specs.Exchange.{AreSwapped, EndsSwapped, LinksSwapped, NodesSwapped, SwapsEnd, SwapsLink}
@@ -57,7 +57,7 @@ module _ {A B : Type 0} (Swaps : ℕ → A → B → A → B → Type 0) where
 
 -- the same of items that were read at the place
 
-pub nodes_further : (own : Own) (k : ℕ) (xs ys us vs : List Node) (a b new_a new_b : Node) (mine : Bool)
+pub nodes_further : (own : Owner) (k : ℕ) (xs ys us vs : List Node) (a b new_a new_b : Node) (mine : Bool)
     → NodesSwapped own k xs ys us vs
     → k < length xs → a ≡ slice_index_or us k a → b ≡ slice_index_or vs k b → mine ≡ owned_by own k
     → SwapsNode mine a b new_a new_b
@@ -72,7 +72,7 @@ nodes_further own k xs ys us vs a b new_a new_b mine so_far there a_is b_is mine
     (subst (λ (x : Node). SwapsNode mine x (slice_index_or vs k e) new_a new_b) (a_read d)
     (subst (λ (y : Node). SwapsNode mine a y new_a new_b) (b_read e) swaps)))
 
-module _ (own : Own) (ways : List LinkEnds) (k : ℕ) (way : LinkEnds) (way_in : k < length ways)
+module _ (own : Owner) (ways : List LinkEnds) (k : ℕ) (way : LinkEnds) (way_in : k < length ways)
     (way_is : way ≡ slice_index_or ways k way)
     (near far : Bool) (near_is : near ≡ owned_by own way.from) (far_is : far ≡ owned_by own way.to) where
   way_here : way ≡ way_at ways k

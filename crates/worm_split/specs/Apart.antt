@@ -8,7 +8,7 @@ use Rattle.worm_region.specs.Owned.{sole}
 use Rattle.worm_region.specs.State.{NetState, IsFramed, net_state, texts_of}
 use Rattle.worm_region.specs.declared.config.Config.{Config}
 use Rattle.worm_node.specs.declared.node.Node.{Node}
-use Rattle.worm_region.specs.declared.own.Own.{Own}
+use Rattle.worm_region.specs.declared.owner.Owner.{Owner}
 use Rattle.worm_split.specs.declared.ends.End.{End}
 use Rattle.worm_split.specs.declared.ends.Line.{Line}
 use Rattle.worm_split.specs.Exchange.{EndsSwapped, LinksSwapped, NodesSwapped, way_at}
@@ -42,7 +42,7 @@ pub record Fits (a : Apart) : Type 0 where
   pub all_lines : length a.lines ≡ link_count a.net.mesh
 
 -- the last worker has one, and what anyone has is of the network that was split
-abbrev pub IsKept : NetState → Own → Option Apart → Type 0
+abbrev pub IsKept : NetState → Owner → Option Apart → Type 0
 IsKept s own None = own.worker + 1 ≡ own.workers → ⊥
 IsKept s own (Some kept) = HasConfigOf s kept.net
 
@@ -57,7 +57,7 @@ pub record ArePaired (kept : Apart) (own_nodes : List Node) (own_links : List Li
   pub ends : length own_ends ≡ link_count kept.net.mesh
 
 -- All that is the worker's changes places; then the worker's lists make a network of the same shape, too.
-pub record IsExchanged (own : Own) (old new : Apart) (own_nodes new_nodes : List Node)
+pub record IsExchanged (own : Owner) (old new : Apart) (own_nodes new_nodes : List Node)
     (own_links new_links : List LinkView) (own_ends new_ends : List End) : Type 0 where
   pub fits : Fits new
   pub config : HasConfigOf old.net new.net
@@ -68,7 +68,7 @@ pub record IsExchanged (own : Own) (old new : Apart) (own_nodes new_nodes : List
   pub framed : IsFramed (with_lists old.net new_nodes new_links)
 
 -- the same, whatever becomes of the worker's own lists
-abbrev pub IsPutBack : Own → Apart → Apart → List Node → List LinkView → List End → Type 0
+abbrev pub IsPutBack : Owner → Apart → Apart → List Node → List LinkView → List End → Type 0
 IsPutBack own old new nodes links ends =
     (left : List Node) × (links_left : List LinkView) × (ends_left : List End)
     × IsExchanged own old new nodes left links links_left ends ends_left

@@ -6,7 +6,7 @@ use Rattle.worm_mesh.specs.declared.mesh.LinkEnds.{LinkEnds}
 use Rattle.worm_region.specs.Owned.{owned_by}
 use Rattle.worm_wires.specs.Links.{LinkView}
 use Rattle.worm_node.specs.declared.node.Node.{Node}
-use Rattle.worm_region.specs.declared.own.Own.{Own}
+use Rattle.worm_region.specs.declared.owner.Owner.{Owner}
 use Rattle.worm_split.specs.declared.ends.End.{End}
 use Rattle.worm_split.specs.declared.ends.Line.{Line}
 
@@ -15,10 +15,10 @@ abbrev pub way_at : List LinkEnds → ℕ → LinkEnds
 way_at ways k = slice_index_or ways k (record { from = 0; out_port = 0; to = 0; in_port = 0 })
 
 -- whether the worker owns the node that the link leaves, and the one that it enters
-abbrev pub near_of : Own → List LinkEnds → ℕ → Bool
+abbrev pub near_of : Owner → List LinkEnds → ℕ → Bool
 near_of own ways k = owned_by own (way_at ways k).from
 
-abbrev pub far_of : Own → List LinkEnds → ℕ → Bool
+abbrev pub far_of : Owner → List LinkEnds → ℕ → Bool
 far_of own ways k = owned_by own (way_at ways k).to
 
 -- two nodes change places where they are the worker's
@@ -52,12 +52,12 @@ pub record AreSwapped {A B : Type 0} (Swaps : ℕ → A → B → A → B → Ty
   pub rest : (k : ℕ) → count ≤ k → (a : A) (b : B) →
       (slice_index_or new_xs k a ≡ slice_index_or xs k a) × (slice_index_or new_ys k b ≡ slice_index_or ys k b)
 
-abbrev pub NodesSwapped : Own → ℕ → List Node → List Node → List Node → List Node → Type 0
+abbrev pub NodesSwapped : Owner → ℕ → List Node → List Node → List Node → List Node → Type 0
 NodesSwapped own = AreSwapped (λ k. SwapsNode (owned_by own k))
 
-abbrev pub LinksSwapped : Own → List LinkEnds → ℕ → List LinkView → List LinkView → List LinkView → List LinkView
+abbrev pub LinksSwapped : Owner → List LinkEnds → ℕ → List LinkView → List LinkView → List LinkView → List LinkView
     → Type 0
 LinksSwapped own ways = AreSwapped (λ k. SwapsLink (near_of own ways k) (far_of own ways k))
 
-abbrev pub EndsSwapped : Own → List LinkEnds → ℕ → List Line → List End → List Line → List End → Type 0
+abbrev pub EndsSwapped : Owner → List LinkEnds → ℕ → List Line → List End → List Line → List End → Type 0
 EndsSwapped own ways = AreSwapped (λ k. SwapsEnd (near_of own ways k) (far_of own ways k))

@@ -7,8 +7,8 @@ use Rattle.worm_mesh.specs.Links.{links_before, link_count}
 use Rattle.worm_theory.specs.Network.{Network}
 use Rattle.worm_region.specs.State.{NetState, IsNet, IsSameConfig, network_of, shape}
 use Rattle.worm_region.specs.Workable.{owned}
-use Rattle.worm_parts.specs.Region.{HasPart}
-use Rattle.worm_parts.specs.Openings.{past_of}
+use Rattle.worm_theory.specs.Region.{HasPart}
+use Rattle.worm_theory.specs.Openings.{past_of}
 use Rattle.worm_split.specs.declared.ends.End.{End}
 use Rattle.worm_split.specs.declared.ends.End.TheVariants.{Inner}
 use Rattle.worm_split.specs.declared.ends.Line.{Line}

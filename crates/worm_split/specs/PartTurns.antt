@@ -15,6 +15,7 @@ use Rattle.worm_region.specs.State.{NetState, router_at, with_router, network_of
 use Rattle.worm_region.specs.Edges.{after_arriving, after_credit_back}
 use Rattle.worm_region.specs.Moves.{chosen_router}
 use Rattle.worm_region.specs.Replies.{Attempts}
+use Rattle.worm_region.specs.Turns.{Each, PassageOf, ◌and_then◌}
 use Rattle.worm_region.specs.Turns.{ComesInBy, AsksSourceBy, Passage, Allocates, lowest_owed, mesh_ports}
 use Rattle.worm_region.specs.Turns.{all_ports, all_nodes}
 use Rattle.worm_region.specs.declared.fault.StepFault.{StepFault}
@@ -27,23 +28,9 @@ use Rattle.worm_split.specs.PartState.{PartState, end_of}
 
 -- Passages of a part
 
--- what is done to a part: from the old one it leads to a new one, ended by a fault or by none
+-- what is done to a part
 abbrev pub PartPassage : Type 1
-PartPassage = PartState → Option StepFault → PartState → Type 0
-
--- nothing is done
-abbrev pub Rests : PartPassage
-Rests old fault new = (fault ≡ None) × (new ≡ old)
-
-infixr 5 ◌then◌
--- the one, ended by its fault; or the one without a fault, and then the other
-abbrev pub ◌then◌ : PartPassage → PartPassage → PartPassage
-◌then◌ P Q old fault new = (IsSome fault × P old fault new) ⊎ ((mid : PartState) × P old None mid × Q mid fault new)
-
--- one for each of a list, in its order, up to the first fault
-abbrev pub EachOf : {A : Type 0} → (A → PartPassage) → List A → PartPassage
-EachOf P [] = Rests
-EachOf P (a ∷ rest) = P a then EachOf P rest
+PartPassage = PassageOf PartState
 
 -- the network of the part moves, as a network does by itself, and no end
 abbrev pub Within : Passage → PartPassage
@@ -155,17 +142,17 @@ Gives x p v old fault new =
 
 -- a credit is asked for of each link out of the node, and a flit of each link into it
 abbrev pub PullsCredits : ℕ → PartPassage
-PullsCredits x old fault new = EachOf (PullsCredit x) (mesh_ports old.net) old fault new
+PullsCredits x old fault new = Each (PullsCredit x) (mesh_ports old.net) old fault new
 
 abbrev pub PullsFlits : ℕ → PartPassage
-PullsFlits x old fault new = EachOf (PullsFlit x) (mesh_ports old.net) old fault new
+PullsFlits x old fault new = Each (PullsFlit x) (mesh_ports old.net) old fault new
 
 -- what was granted to an input port is sent
 abbrev pub SendsGrant : List (Option SwGrant) → ℕ → ℕ → PartPassage
-SendsGrant grants x p = EachOf (λ (g : SwGrant). Sends x p g.vc) (option_to_list (slice_index_or grants p None))
+SendsGrant grants x p = Each (λ (g : SwGrant). Sends x p g.vc) (option_to_list (slice_index_or grants p None))
 
 abbrev pub SendsGrants : List (Option SwGrant) → ℕ → PartPassage
-SendsGrants grants x old fault new = EachOf (SendsGrant grants x) (all_ports old.net) old fault new
+SendsGrants grants x old fault new = Each (SendsGrant grants x) (all_ports old.net) old fault new
 
 -- one pass of the switch allocator, and then what it granted is sent, by input port
 abbrev pub SendsGranted : ℕ → PartPassage
@@ -175,23 +162,25 @@ SendsGranted x old fault new =
 
 -- a credit of the lowest channel that owes one is given to each link into the node
 abbrev pub GivesCredit : ℕ → ℕ → PartPassage
-GivesCredit x p old fault new = EachOf (Gives x p) (option_to_list (lowest_owed (router_at old.net x) p)) old fault new
+GivesCredit x p old fault new = Each (Gives x p) (option_to_list (lowest_owed (router_at old.net x) p)) old fault new
 
 abbrev pub GivesCredits : ℕ → PartPassage
-GivesCredits x old fault new = EachOf (GivesCredit x) (mesh_ports old.net) old fault new
+GivesCredits x old fault new = Each (GivesCredit x) (mesh_ports old.net) old fault new
 
 -- what a node does in a turn once its source and its links were asked
 abbrev pub NodePasses : ℕ → PartPassage
-NodePasses x = Within (ComesInBy Attempts x) then Within (Allocates x) then SendsGranted x then GivesCredits x
+NodePasses x =
+    Within (ComesInBy Attempts x) and_then Within (Allocates x) and_then SendsGranted x
+    and_then GivesCredits x
 
 -- the turn of a node, with these entries for all nodes
 abbrev pub NodeTurn : List Entry → ℕ → PartPassage
 NodeTurn entries x =
-    Within (AsksSourceBy Attempts entries x) then PullsCredits x then PullsFlits x then NodePasses x
+    Within (AsksSourceBy Attempts entries x) and_then PullsCredits x and_then PullsFlits x and_then NodePasses x
 
 -- the turns of the part's nodes, by rising number
 abbrev pub own_nodes : PartState → List ℕ
 own_nodes p = filter (owned p.net) (all_nodes p.net)
 
 abbrev pub Turn : List Entry → PartPassage
-Turn entries old fault new = EachOf (NodeTurn entries) (own_nodes old) old fault new
+Turn entries old fault new = Each (NodeTurn entries) (own_nodes old) old fault new

@@ -9,13 +9,13 @@ use Rattle.worm_wires.specs.Links.{empty_link}
 use Rattle.worm_region.specs.Owned.{sole}
 use Rattle.worm_region.specs.Parts.{IsConfigOf}
 use Rattle.worm_region.specs.State.{NetState, net_state, network_of, node_at, shape, texts_of}
-use Rattle.worm_region.specs.declared.own.Own.{Own}
-use Rattle.worm_parts.specs.Openings.{past_of}
-use Rattle.worm_parts.specs.Region.{Begins}
+use Rattle.worm_region.specs.declared.owner.Owner.{Owner}
+use Rattle.worm_theory.specs.Openings.{past_of}
+use Rattle.worm_theory.specs.Region.{Begins}
 use Rattle.worm_split.specs.declared.ends.End.TheVariants.{Inner}
 use Rattle.worm_split.specs.declared.ends.Line.{Line}
-use Rattle.worm_split.specs.declared.making.Rooms.{Rooms}
-use Rattle.worm_split.specs.declared.making.Seat.{Seat}
+use Rattle.worm_split.specs.declared.memory.Rooms.{Rooms}
+use Rattle.worm_split.specs.declared.memory.Seat.{Seat}
 use Rattle.worm_split.specs.Ends.{AreEndsMade, end_made, line_at}
 use Rattle.worm_split.specs.Apart.{Apart, AreWays}
 use Rattle.worm_split.specs.Exchange.{way_at}
@@ -67,7 +67,7 @@ pub record AreSeats (s : NetState) (lines : List Line) (workers : ℕ) (seats : 
   pub for_all : workers ≤ room
 
 -- what a part is that has these lists
-abbrev pub seat_state : Seat → Own → PartState
+abbrev pub seat_state : Seat → Owner → PartState
 seat_state seat own = record {
   net = net_state seat.config.radices.items seat.config.channels.items seat.config.depth
       (texts_of seat.config.classes.items)

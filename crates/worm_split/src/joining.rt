@@ -8,8 +8,8 @@ ghost use Rattle.worm_split.specs.Joins.{AreEmptied, AreOfOne, AreParts, Credits
 ghost use Rattle.worm_split.specs.Joins.{IsEmptied, IsGathered, IsJoinOf, IsLaterThan};
 ghost use Rattle.worm_split.specs.Splits.{part_at};
 
+use crate::apart::TakenApart;
 use crate::ends::{End, Line};
-use crate::exchange::Kept;
 use crate::part::Part;
 use std::mem::replace;
 use std::sync::Wait;
@@ -103,7 +103,7 @@ fn is_within(way: LinkEnds, workers: usize) -> bool
     usize::from(way.from) % workers == usize::from(way.to) % workers
 }
 
-impl Kept {
+impl TakenApart {
     /// Puts a part back: its nodes, what is on its links, and its ends.
     fn put_back(&mut self, region: Region, mut ends: Vec<End>)
         requires workers { 0 < region.own.workers }
@@ -137,7 +137,7 @@ impl Kept {
 }
 
 /// The network that the parts make but for what their queues still hold, taken apart.
-fn gather(mut parts: Vec<Part>) -> Kept
+fn gather(mut parts: Vec<Part>) -> TakenApart
     requires { AreParts parts.items }
     ensures { IsGathered parts.items 0 result }
 {
@@ -187,7 +187,7 @@ pub fn join<R: Wait>(rt: &R, parts: Vec<Part>) -> Net
     let workers = parts.len();
     let mut whole = gather(parts);
     whole.empty_lines(rt, workers);
-    let Kept {
+    let TakenApart {
         config,
         ways: _,
         nodes,

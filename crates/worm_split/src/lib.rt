@@ -8,10 +8,10 @@
 //! Nothing is said of threads, of which part moves when, nor that a part ever takes what was sent to it.
 #![tactic(auto)]
 
+mod apart;
 mod ends;
-mod exchange;
 mod joining;
-mod making;
+mod memory;
 mod part;
 mod splitting;
 mod stop;

@@ -1,7 +1,7 @@
 //! What one worker has of a network: its own nodes, and its ends of the links that it shares with other workers.
 
+use crate::apart::TakenApart;
 use crate::ends::{End, Line};
-use crate::exchange::Kept;
 use std::marker::Model;
 use std::snapshot::Snapshot;
 use worm_core::{Net, Region};
@@ -18,7 +18,7 @@ pub struct Part {
     /// Both ends of each link, as they were made.
     pub(crate) lines: Snapshot<Vec<Line>>,
     /// The network taken apart, which the last worker keeps till it is joined.
-    pub(crate) kept: Option<Kept>,
+    pub(crate) kept: Option<TakenApart>,
 }
 
 impl Model for Part {

@@ -7,16 +7,16 @@ ghost use Rattle.worm_split.specs.PartState.{IsPart};
 ghost use Rattle.worm_split.specs.Apart.{IsKept};
 ghost use Rattle.worm_split.specs.Splits.{AreSeats, IsOpened, IsSplitOf, seat_state};
 
+use crate::apart::TakenApart;
 use crate::ends::Line;
-use crate::exchange::Kept;
-use crate::making::{Rooms, Seat, make_rooms};
+use crate::memory::{Rooms, Seat, make_rooms};
 use crate::part::Part;
 use std::alloc::Global;
 use std::snapshot::Snapshot;
-use worm_core::{Net, NetParts, NoMemory, Own, Region};
+use worm_core::{Net, NetParts, NoMemory, Owner, Region};
 
 /// The part that has these lists.
-fn part_of(seat: Seat, own: Own, kept: Option<Kept>) -> Part
+fn part_of(seat: Seat, own: Owner, kept: Option<TakenApart>) -> Part
     requires works { IsWorkable (seat_state seat own).net }
     requires part { IsPart (seat_state seat own) }
     requires kept { IsKept seat.opening.value own kept }
@@ -48,7 +48,7 @@ fn part_of(seat: Seat, own: Own, kept: Option<Kept>) -> Part
 
 /// The parts of the network that is taken apart, for the workers in rising number.
 fn deal(
-    mut whole: Kept,
+    mut whole: TakenApart,
     mut seats: Vec<Seat>,
     mut parts: Vec<Part>,
     workers: u16,
@@ -66,14 +66,14 @@ fn deal(
         let Some(mut seat) = seats.pop() else {
             unreachable!()
         };
-        let own = Own { worker, workers };
+        let own = Owner { worker, workers };
         whole.exchange(&mut seat.nodes, &mut seat.links, &mut seat.ends, own);
         let _room = parts.push(part_of(seat, own, None));
     }
     let Some(mut seat) = seats.pop() else {
         unreachable!()
     };
-    let own = Own {
+    let own = Owner {
         worker: workers - 1,
         workers,
     };
@@ -113,7 +113,7 @@ pub fn split(alloc: Global, net: Net, workers: usize) -> Result<Vec<Part>, (Net,
         links,
         inboxes,
     } = net.into_parts();
-    let whole = Kept {
+    let whole = TakenApart {
         config,
         ways,
         nodes,

@@ -1,13 +1,14 @@
 //! What a part does in a turn of one of its nodes.
 
 ghost use Rattle.std.specs.Prelude.{◌≡◌, ◌<◌, ◌+◌, ◌*◌, ◌%◌, ◌↔◌, ◌∷◌, [], filter, true, None, Some, IsTrue};
-ghost use Rattle.std.specs.Prelude.{false, List, Option, IfErr, IsSome, length, sum};
+ghost use Rattle.std.specs.Prelude.{false, List, Option, IfErr, length, sum};
 ghost use Rattle.std.specs.Result.{result_err};
 ghost use Rattle.worm_mesh.specs.Address.{node_count, stride_of};
 ghost use Rattle.worm_region.specs.Replies.{Attempts};
 ghost use Rattle.worm_script.specs.Script.{due};
 ghost use Rattle.worm_region.specs.Prepared.{Prepares};
-ghost use Rattle.worm_region.specs.Turns.{AreGrants, AreThere, AsksSourceBy, MayAllSend, OthersMaySend};
+ghost use Rattle.worm_region.specs.Turns.{Each};
+ghost use Rattle.worm_region.specs.Turns.{AreGrants, AreThere, AsksSourceBy};
 ghost use Rattle.worm_region.specs.Workable.{owned};
 ghost use Rattle.worm_split.specs.Effects.{IsRefused, SinksTakeOne, SourcesTake};
 ghost use Rattle.worm_split.specs.PartState.{IsSamePart};
@@ -17,7 +18,7 @@ ghost use Rattle.worm_swalloc.specs.SwAlloc.{AreGranted};
 ghost use Rattle.worm_swalloc.specs.declared.grant.SwGrant.{SwGrant};
 ghost use Rattle.worm_router.specs.Router.{input_at, leaving};
 ghost use Rattle.worm_theory.specs.Steps.{IsThere, Step as Event};
-ghost use Rattle.worm_split.specs.PartTurns.{ComesBy, EachOf, Gives, GivesAcross, GivesCredits, LeavesBy};
+ghost use Rattle.worm_split.specs.PartTurns.{ComesBy, Gives, GivesAcross, GivesCredits, LeavesBy};
 ghost use Rattle.worm_split.specs.PartTurns.{NodePasses, NodeTurn, Sends, SendsAcross, SendsGrants, StaysWithin, Turn};
 ghost use Rattle.worm_split.specs.PartTurns.{AreShared, PullsCredit, PullsCredits, PullsFlit, PullsFlits, Within};
 
@@ -151,7 +152,6 @@ impl Part {
         ensures prepares { Prepares node result self.old.net self.new.net }
         ensures within { self.new ≡ record self.old { net = self.new.net } }
         ensures there { AreThere self.new.net node result }
-        ensures ready { MayAllSend self.new.net node result }
         ensures same { IsSamePart self.old self.new }
     {
         self.region.prepare(node)
@@ -164,7 +164,6 @@ impl Part {
         requires ready { leaving (router_at self.old.net node) port vc ≡ Some (out, flit) }
         requires leaves { LeavesBy self.old node out }
         ensures sends { SendsAcross node port vc self.old self.new }
-        ensures others { OthersMaySend self.old.net node port vc self.new.net }
         ensures same { IsSamePart self.old self.new }
     {
         self.region.recall();
@@ -174,14 +173,12 @@ impl Part {
         }
     }
 
-    /// What is ready to leave stays within the part; it is sent as in a network.
+    /// What is ready to leave, if anything, stays within the part; it is sent as in a network.
     fn send_within(&mut self, node: u8, port: u8, vc: u8) -> Result<(), StepFault>
         requires own { owned self.old.net node ≡ true }
         requires there { IsThere (shape self.old.net) (Event.Send node port vc) }
-        requires ready { IsSome (leaving (router_at self.old.net node) port vc) }
         requires stays { StaysWithin self.old node (leaving (router_at self.old.net node) port vc) }
         ensures sends { Within (Attempts (Event.Send node port vc)) self.old (result_err result) self.new }
-        ensures others { OthersMaySend self.old.net node port vc self.new.net }
         ensures same { IsSamePart self.old self.new }
     {
         self.region.recall();
@@ -199,27 +196,16 @@ impl Part {
         is_leaving(&self.ends[usize::from(links.out)])
     }
 
-    /// The node is not known to rest any more, so that a send within the part need not read its router anew.
-    fn wake(&mut self, node: u8)
-        ensures { self.new ≡ self.old }
-    {
-        self.region.recall();
-        self.region.wake(node);
-    }
-
-    /// Lets a granted channel send, over a link to another worker or within the part; what may leave any other channel
-    /// of the node may leave it still. `NoMemory` where its flit is for the sink and there is none for it there.
+    /// Lets a granted channel send, over a link to another worker or within the part. `NoMemory` where its flit is for
+    /// the sink and there is none for it there.
     fn send<R: Wait>(&mut self, rt: &R, node: u8, port: u8, vc: u8) -> Result<(), StepFault>
         requires own { owned self.old.net node ≡ true }
         requires there { IsThere (shape self.old.net) (Event.Send node port vc) }
-        requires ready { IsSome (leaving (router_at self.old.net node) port vc) }
         ensures sends { Sends node port vc self.old (result_err result) self.new }
-        ensures others { OthersMaySend self.old.net node port vc self.new.net }
         ensures same { IsSamePart self.old self.new }
     {
-        self.wake(node);
         let Some((out, flit)) = self.region.ready(node, port, vc) else {
-            unreachable!()
+            return self.send_within(node, port, vc);
         };
         if !self.leaves(node, out) {
             return self.send_within(node, port, vc);
@@ -237,7 +223,6 @@ impl Part {
     ) -> Result<(), StepFault>
         requires granted { AreGrants granted }
         requires there { AreThere self.old.net node granted }
-        requires ready { MayAllSend self.old.net node granted }
         requires own { owned self.old.net node ≡ true }
         ensures sends { (grants : List (Option SwGrant)) → AreGranted grants granted →
             SendsGrants grants node self.old (result_err result) self.new }

@@ -10,9 +10,9 @@ use Rattle.std.proofs.lemmas.List.{get_or-set_same, get_or-set_other, get_or-rep
 use Rattle.std.proofs.lemmas.List.Elements.{filter-append, All-append}
 use Rattle.worm_flit.specs.declared.Lane.{Lane}
 use Rattle.worm_flit.specs.declared.Flit.{Flit}
-use Rattle.worm_flit.specs.Packets.{PacketState, later_flits, packet_flits, mark}
+use Rattle.worm_flit.specs.Packets.{History, PacketState, closed, fresh, later_flits, mark, packet, packet_flits}
 use Rattle.worm_flit.specs.Stamps.{is_of_lane, of_lane}
-use Rattle.worm_term.specs.Lanes.{lane_of, IsPackets, fresh, packet, closed}
+use Rattle.worm_term.specs.Lanes.{lane_of}
 use Rattle.worm_term.specs.Queue.{QueueState, empty_queue, appended}
 use Rattle.worm_term.specs.Source.{SourceState, IsSource, IsFrom, IsOpen, InOrder, fresh_lane, classes, lane_at}
 use Rattle.worm_term.specs.Source.{next_number, with_packet, source_state, after_offer, after_close}
@@ -88,7 +88,7 @@ module _ (node nodes classes : ℕ) (queues : List QueueState) (lanes : List Lan
 
   abbrev AfterIt : ℕ → ℕ → Type 0
   AfterIt dst class =
-      IsPackets (lane_of node dst class)
+      History (lane_of node dst class)
       (slice_index_or new_lanes (dst * classes + class) fresh_lane).next
       (slice_index_or new_lanes (dst * classes + class) fresh_lane).closed
       (of_lane (lane_of node dst class) (slice_index_or new_queues class empty_queue).injected)
@@ -96,8 +96,8 @@ module _ (node nodes classes : ℕ) (queues : List QueueState) (lanes : List Lan
   -- the lane of the packet
   own_lane : d0 < nodes → c0 < classes → length queues ≡ classes → d0 * classes + c0 < length lanes
       → OfLane (lane_of node d0 c0) fs
-      → ((xs : List Flit) → IsPackets (lane_of node d0 c0) had_lane.next had_lane.closed xs
-      → IsPackets (lane_of node d0 c0) (had_lane.next + 1) is_last (xs ++ fs))
+      → ((xs : List Flit) → History (lane_of node d0 c0) had_lane.next had_lane.closed xs
+      → History (lane_of node d0 c0) (had_lane.next + 1) is_last (xs ++ fs))
       → InOrder node nodes classes queues lanes
       → AfterIt d0 c0
   own_lane d_in c_in all_queues line_in own more before =
@@ -131,8 +131,8 @@ module _ (node nodes classes : ℕ) (queues : List QueueState) (lanes : List Lan
 
   pub offered_in_order : d0 < nodes → c0 < classes → length queues ≡ classes → d0 * classes + c0 < length lanes
       → OfLane (lane_of node d0 c0) fs
-      → ((xs : List Flit) → IsPackets (lane_of node d0 c0) had_lane.next had_lane.closed xs
-      → IsPackets (lane_of node d0 c0) (had_lane.next + 1) is_last (xs ++ fs))
+      → ((xs : List Flit) → History (lane_of node d0 c0) had_lane.next had_lane.closed xs
+      → History (lane_of node d0 c0) (had_lane.next + 1) is_last (xs ++ fs))
       → InOrder node nodes classes queues lanes
       → InOrder node nodes classes new_queues new_lanes
   offered_in_order d_in c_in all_queues line_in own more before dst class dst_in class_in =
@@ -183,8 +183,8 @@ offered_owned node nodes classes queues lane fs here there class_in all before c
 
 pub offered_sound : (s : SourceState) (lane : Lane) (fs : List Flit) (is_last : Bool)
     → IsSource s → IsOpen s lane → OfLane lane fs
-    → ((xs : List Flit) → IsPackets lane (next_number s lane) false xs
-    → IsPackets lane (next_number s lane + 1) is_last (xs ++ fs))
+    → ((xs : List Flit) → History lane (next_number s lane) false xs
+    → History lane (next_number s lane + 1) is_last (xs ++ fs))
     → IsSource (with_packet s lane fs is_last)
 offered_sound s lane fs is_last sound is_open own more = record {
   all_queues = rw length-set sound.all_queues;
@@ -198,10 +198,10 @@ offered_sound s lane fs is_last sound is_open own more = record {
       is_open.class_in sound.all_queues line_in
       (subst (λ l. OfLane l fs) from_here own)
       (λ xs before.
-      let had : IsPackets lane (next_number s lane) false xs =
-      subst (λ b. IsPackets lane (next_number s lane) b xs) is_open.open_yet
-      (subst (λ l. IsPackets l (next_number s lane) (lane_at s lane).closed xs) (sym from_here) before) in
-      subst (λ l. IsPackets l (next_number s lane + 1) is_last (xs ++ fs)) from_here (more xs had))
+      let had : History lane (next_number s lane) false xs =
+      subst (λ b. History lane (next_number s lane) b xs) is_open.open_yet
+      (subst (λ l. History l (next_number s lane) (lane_at s lane).closed xs) (sym from_here) before) in
+      subst (λ l. History l (next_number s lane + 1) is_last (xs ++ fs)) from_here (more xs had))
       sound.in_order;
   owned =
       let class_in : lane.class < length s.queues = let below = is_open.class_in in let all = sound.all_queues in
@@ -215,12 +215,12 @@ pub offer_sound : (s : SourceState) (p : PacketState) → IsSource s → IsOpen 
 offer_sound s p sound is_open some few =
     offered_sound s p.lane (packet_flits p.lane (next_number s p.lane) p.words) false sound is_open
     (packet_flits-lane p.lane (next_number s p.lane) p.words)
-    (λ xs before. packet (next_number s p.lane) xs p.words some few before)
+    (λ xs before. packet p.words some few before)
 
 pub close_sound : (s : SourceState) (lane : Lane) → IsSource s → IsOpen s lane → IsSource (after_close s lane)
 close_sound s lane sound is_open =
     offered_sound s lane (mark lane (next_number s lane) ∷ []) true sound is_open (refl, tt)
-    (λ xs before. closed (next_number s lane) xs before)
+    (λ xs before. closed before)
 
 pub fresh_sound : (node nodes : ℕ) (channels : List ℕ) (classes : ℕ) (queues : List QueueState) (lanes : List LaneState)
     → classes ≡ length channels → queues ≡ replicate classes empty_queue

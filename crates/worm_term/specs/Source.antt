@@ -5,14 +5,14 @@ use Rattle.std.specs.Prelude.{All, Option, None, Some, is_some, option_map, unwr
 use Rattle.worm_flit.specs.declared.Lane.{Lane}
 use Rattle.worm_flit.specs.declared.Flit.{Flit}
 use Rattle.worm_flit.specs.Channels.{first_channel}
-use Rattle.worm_flit.specs.Packets.{PacketState, packet_flits, mark}
+use Rattle.worm_flit.specs.Packets.{History, PacketState, mark, packet_flits}
 use Rattle.worm_term.specs.declared.fault.OfferFault.{OfferFault}
 use Rattle.worm_term.specs.declared.fault.OfferFault.TheVariants.{WrongSource, NoSuchNode, NoSuchClass, ManyChannels}
 use Rattle.worm_term.specs.declared.fault.OfferFault.TheVariants.{LaneClosed, LaneFull, NoMemory}
 use Rattle.worm_term.specs.declared.source.LaneState.{LaneState}
 use Rattle.worm_flit.specs.SmallSet.{has}
 use Rattle.worm_flit.specs.Stamps.{of_lane, with_channel}
-use Rattle.worm_term.specs.Lanes.{lane_of, IsPackets}
+use Rattle.worm_term.specs.Lanes.{lane_of}
 use Rattle.worm_term.specs.Queue.{QueueState, empty_queue, appended, waiting, one_fed}
 
 -- the queues by class, and the lanes by destination, then class
@@ -107,7 +107,7 @@ after_fed s class =
 abbrev pub InOrder : ℕ → ℕ → ℕ → List QueueState → List LaneState → Type 0
 InOrder node nodes classes queues lanes =
     (dst class : ℕ) → dst < nodes → class < classes
-    → IsPackets (lane_of node dst class)
+    → History (lane_of node dst class)
     (slice_index_or lanes (dst * classes + class) fresh_lane).next
     (slice_index_or lanes (dst * classes + class) fresh_lane).closed
     (of_lane (lane_of node dst class) (slice_index_or queues class empty_queue).injected)

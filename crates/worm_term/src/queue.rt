@@ -53,13 +53,6 @@ impl Queue {
         }
     }
 
-    /// Takes memory ahead for so many flits more.
-    pub fn make_room(&mut self, flits: usize) -> Result<(), AllocError>
-        ensures { self.new ≡ self.old }
-    {
-        self.injected.reserve(flits)
-    }
-
     /// Appends the packet's flits, or nothing.
     pub fn append_packet(&mut self, packet: &Packet, number: u16) -> Result<(), AllocError>
         ensures ok { OnOk result (self.new ≡ appended self.old (packet_flits packet.now.lane number packet.now.words)) }

@@ -3,7 +3,7 @@ ghost use Rattle.worm_flit.specs.Kinds.{is_mark};
 ghost use Rattle.worm_flit.specs.Stamps.{is_of_lane};
 ghost use Rattle.worm_term.specs.Sink.{after_take, has_mark};
 
-use std::alloc::{AllocError, Global};
+use std::alloc::Global;
 use std::marker::Model;
 use worm_flit::{Flit, Kind, Lane};
 
@@ -43,13 +43,6 @@ impl Sink {
             node,
             delivered: Vec::new(alloc),
         }
-    }
-
-    /// Takes memory ahead for so many flits more, so that none is asked for as they come. `Err` where it is refused.
-    pub fn make_room(&mut self, flits: usize) -> Result<(), AllocError>
-        ensures { self.new ≡ self.old }
-    {
-        self.delivered.reserve(flits)
     }
 
     /// Takes a flit for this node in. Where memory was refused it comes back, and the sink is as it was.

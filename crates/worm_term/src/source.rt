@@ -3,7 +3,8 @@ ghost use Rattle.std.specs.Prelude.{unwrap_or, true, false, replicate, All, opti
 ghost use Rattle.worm_flit.specs.Channels.{AreChannels, first_channel};
 ghost use Rattle.worm_term.specs.Queue.{empty_queue, waiting};
 ghost use Rattle.worm_flit.specs.Stamps.{of_lane};
-ghost use Rattle.worm_term.specs.Lanes.{IsPackets, lane_of};
+ghost use Rattle.worm_flit.specs.Packets.{History};
+ghost use Rattle.worm_term.specs.Lanes.{lane_of};
 ghost use Rattle.worm_term.specs.Source.{SourceState, fresh_lane, fresh_source, lane_at, lane_line, queue_at, refusal};
 ghost use Rattle.worm_term.specs.Source.{next_number, after_offer, after_close, front_of, after_fed, classes, IsOpen};
 ghost use Rattle.worm_term.specs.Source.{AreFirsts, AreUnfed, IsAnswered, IsFrom};
@@ -149,16 +150,6 @@ impl Source {
         Ok(i)
     }
 
-    /// Takes memory ahead for so many flits more of a class, so that none is asked for as packets and marks are
-    /// accepted. `Err` where it is refused.
-    pub fn make_room(&mut self, class: u8, flits: usize) -> Result<(), AllocError>
-        requires { class < classes self.old }
-        ensures { self.new ≡ self.old }
-    {
-        let queue = &mut self.queues[usize::from(class)];
-        queue.make_room(flits)
-    }
-
     /// Accepts the packet, all its flits or none, and answers its number in its lane. What refuses it, in this
     /// order: `WrongSource`, `NoSuchNode`, `NoSuchClass`, `LaneClosed`, `LaneFull`, `NoMemory`; the source is
     /// then as it was.
@@ -258,7 +249,7 @@ impl Source {
         ensures value { result.now ≡ (queue_at self.now class).injected }
         ensures owned { All (IsFrom self.now.node self.now.nodes class) result.now }
         ensures in_order { (dst : ℕ) → dst < self.now.nodes
-            → IsPackets (lane_of self.now.node dst class) (next_number self.now (lane_of self.now.node dst class))
+            → History (lane_of self.now.node dst class) (next_number self.now (lane_of self.now.node dst class))
             (lane_at self.now (lane_of self.now.node dst class)).closed
             (of_lane (lane_of self.now.node dst class) result.now) }
     {

@@ -4,17 +4,16 @@ use Rattle.std.proofs.Common.{get_or, replicate, refl, sym, ap, subst, ◌∙◌
 use Rattle.std.specs.Prelude.{codes}
 use Rattle.std.specs.Fmt.{decimal}
 use Rattle.std.specs.List.{list_all}
-use Rattle.std.proofs.lemmas.Nat.{mul-le}
 use Rattle.std.proofs.lemmas.Bool.Decides.{nat_tests}
 use Rattle.std.proofs.lemmas.List.{append-nil}
-use Rattle.std.proofs.lemmas.List.Sums.{fold-append}
 use Rattle.std.proofs.lemmas.Fmt.{digits_decimal}
+use Rattle.worm_mesh.specs.Address.{node_count}
 use Rattle.worm_text.specs.declared.format.Format.{Format}
 use Rattle.worm_text.specs.declared.format.Format.TheVariants.{One, Two}
 use Rattle.worm_text.specs.declared.key.Key.TheVariants.{Radix, Dims, Depth}
 use Rattle.worm_text.specs.Lines.{line}
 use Rattle.worm_text.specs.Numerals.{is_name, is_digit}
-use Rattle.worm_text.specs.Network.{IsBetween, nodes_of, depth_line, IsMesh}
+use Rattle.worm_text.specs.Network.{IsBetween, depth_line, IsMesh}
 use Rattle.worm_text.specs.Reading.{◌>>=◌, number_at}
 use Rattle.worm_text.specs.Stages.{at_radix, at_dims, at_dims_first, at_radices, at_depth, at_class, widened, copies_at}
 use Rattle.worm_text.specs.Stages.{radices_at, radix_stage, dims_stage, dims_first_stage, radices_stage, depth_stage}
@@ -24,6 +23,7 @@ use Rattle.worm_text.proofs.Names.{and_true, name_bytes}
 use Rattle.worm_text.proofs.Cuts.{IsPlain, ArePlain, cut-line}
 use Rattle.worm_text.proofs.FieldLaws.{AreDigits, own, begins_again, number_at_again}
 use Rattle.worm_text.proofs.Followed.{All-replicate}
+use Rattle.worm_text.proofs.NodeCounts.{nodes_front}
 
 -- ---- plain fields
 
@@ -59,26 +59,15 @@ radix_again k between =
     ap radix_stage (cut-line (codes "radix") (decimal k ∷ []) (refl, (plain-decimal k (omega (arith, between)), tt)))
     ∙ rw (begins_again Radix [] (decimal k ∷ []), number_at_again 2 16 k [] (lit< tt) between) refl
 
--- a product of numbers from 1 on does not fall
-fold-grows : (a : ℕ) (ks : List ℕ) → All (λ k. 1 ≤ k) ks → a ≤ fold ◌*◌ a ks
-fold-grows a [] h = omega arith
-fold-grows a (k ∷ ks) h =
-    let one : 1 ≤ k = h 0 0 (omega arith) in
-    let rest = fold-grows (a * k) ks (λ i d lt. h (suc i) d (omega arith)) in
-    omega (arith, rest, mul-le a 1 a k (omega arith) one)
-
-nodes_of-front : (radices ks : List ℕ) → All (λ k. 1 ≤ k) ks → nodes_of (radices ++ ks) ≤ 256 → nodes_of radices ≤ 256
-nodes_of-front radices ks h few = omega (arith, fold-append ◌*◌ 1 radices ks, fold-grows (nodes_of radices) ks h)
-
-widened_again : (radices : List ℕ) (k : ℕ) → nodes_of (radices ++ k ∷ []) ≤ 256
+widened_again : (radices : List ℕ) (k : ℕ) → node_count (radices ++ k ∷ []) ≤ 256
     → widened radices k ≡ fine (radices ++ k ∷ [])
-widened_again radices k few = let t : leb (nodes_of (radices ++ k ∷ [])) 256 ≡ true = grind (arith, nat_tests) in
+widened_again radices k few = let t : leb (node_count (radices ++ k ∷ [])) 256 ≡ true = grind (arith, nat_tests) in
     rw t refl
 
 All-tail : {A : Type 0} (P : A → Type 0) (x : A) (xs : List A) → All P (x ∷ xs) → All P xs
 All-tail P x xs h i d lt = h (suc i) d (omega arith)
 
-radices_again : (radices ks : List ℕ) (rest : List (List ℕ)) → All (IsBetween 2 16) ks → nodes_of (radices ++ ks) ≤ 256
+radices_again : (radices ks : List ℕ) (rest : List (List ℕ)) → All (IsBetween 2 16) ks → node_count (radices ++ ks) ≤ 256
     → radices_at (length ks) radices (map decimal ks ++ rest) ≡ fine (radices ++ ks, rest)
 unfolding radices_at
 radices_again radices [] rest each few = ap (λ (x : List ℕ). fine (x, rest)) (sym (append-nil radices))
@@ -86,8 +75,8 @@ radices_again radices (k ∷ ks) rest each few =
     let first : IsBetween 2 16 k = each 0 0 (omega arith) in
     let others = All-tail (IsBetween 2 16) k ks each in
     let shift : (radices ++ k ∷ []) ++ ks ≡ radices ++ k ∷ ks = append_assoc radices (k ∷ []) ks in
-    let few2 : nodes_of ((radices ++ k ∷ []) ++ ks) ≤ 256 = subst (λ (x : List ℕ). nodes_of x ≤ 256) (sym shift) few in
-    let few1 = nodes_of-front (radices ++ k ∷ []) ks (λ i d lt. omega (arith, (others i d lt).0)) few2 in
+    let few2 : node_count ((radices ++ k ∷ []) ++ ks) ≤ 256 = subst (λ (x : List ℕ). node_count x ≤ 256) (sym shift) few in
+    let few1 = nodes_front (radices ++ k ∷ []) ks (λ i d lt. omega (arith, (others i d lt).0)) few2 in
     let a = bind_at_ok (number_at 2 16 (decimal k ∷ (map decimal ks ++ rest)))
     (λ k. widened radices k.0 >>= λ more. radices_at (length ks) more k.1) (
       k,
@@ -97,16 +86,16 @@ radices_again radices (k ∷ ks) rest each few =
     (radices ++ k ∷ []) (widened_again radices k few1) in
     a ∙ b ∙ radices_again (radices ++ k ∷ []) ks rest others few2 ∙ ap (λ (x : List ℕ). fine (x, rest)) shift
 
-copies_again : (n : ℕ) (radices : List ℕ) (k : ℕ) → 1 ≤ k → nodes_of (radices ++ replicate n k) ≤ 256
+copies_again : (n : ℕ) (radices : List ℕ) (k : ℕ) → 1 ≤ k → node_count (radices ++ replicate n k) ≤ 256
     → copies_at n radices k ≡ fine (radices ++ replicate n k)
 unfolding copies_at
 copies_again zero radices k one few = ap (λ (x : List ℕ). fine x) (sym (append-nil radices))
 copies_again (suc n) radices k one few =
     let shift : (radices ++ k ∷ []) ++ replicate n k ≡ radices ++ replicate (suc n) k =
     append_assoc radices (k ∷ []) (replicate n k) in
-    let few2 : nodes_of ((radices ++ k ∷ []) ++ replicate n k) ≤ 256 =
-    subst (λ (x : List ℕ). nodes_of x ≤ 256) (sym shift) few in
-    let few1 = nodes_of-front (radices ++ k ∷ []) (replicate n k) (All-replicate (λ x. 1 ≤ x) n k one) few2 in
+    let few2 : node_count ((radices ++ k ∷ []) ++ replicate n k) ≤ 256 =
+    subst (λ (x : List ℕ). node_count x ≤ 256) (sym shift) few in
+    let few1 = nodes_front (radices ++ k ∷ []) (replicate n k) (All-replicate (λ x. 1 ≤ x) n k one) few2 in
     bind_at_ok (widened radices k) (λ more. copies_at n more k) (radices ++ k ∷ []) (widened_again radices k few1)
     ∙ copies_again n (radices ++ k ∷ []) k one few2 ∙ ap (λ (x : List ℕ). fine x) shift
 
@@ -126,7 +115,7 @@ dims_again radices mesh =
     let n = length radices in
     let all = alike_is radices k mesh.alike in
     let first : IsBetween 2 16 k = mesh.each 0 0 (omega (arith, mesh.dims)) in
-    let few : nodes_of (replicate n k) ≤ 256 = subst (λ (x : List ℕ). nodes_of x ≤ 256) all mesh.nodes in
+    let few : node_count (replicate n k) ≤ 256 = subst (λ (x : List ℕ). node_count x ≤ 256) all mesh.nodes in
     let copied : copies_at n [] k ≡ fine radices =
     copies_again n [] k (omega (arith, first)) few ∙ ap (λ (x : List ℕ). fine x) (sym all) in
     ap (dims_stage k) (cut-line (codes "dims") (decimal n ∷ []) (

@@ -11,6 +11,7 @@ use Rattle.std.proofs.lemmas.List.{map_push, take-append-drop, get_or-drop, leng
 use Rattle.std.proofs.lemmas.List.Folds.{list_any-append}
 use Rattle.std.proofs.lemmas.List.Sums.{fold_push, fold_more, fold-append}
 use Rattle.std.proofs.lemmas.Nat.{mul-le}
+use Rattle.worm_mesh.specs.Address.{node_count}
 use Rattle.worm_text.specs.declared.fault.Why.{Why}
 use Rattle.worm_text.specs.declared.fault.Why.TheVariants.{Header, UnknownWord, TooMany, AfterEnd}
 use Rattle.worm_text.specs.declared.fault.TextFault.{TextFault}
@@ -19,7 +20,7 @@ use Rattle.worm_script.specs.declared.entry.Act.{Act}
 use Rattle.worm_script.specs.declared.entry.Act.TheVariants as act
 use Rattle.worm_script.specs.declared.entry.Entry.{Entry}
 use Rattle.worm_text.specs.Lines.{cut, space, newline}
-use Rattle.worm_text.specs.Network.{Network, nodes_of, IsBetween}
+use Rattle.worm_text.specs.Network.{Network, IsBetween}
 use Rattle.worm_text.specs.Reading.{◌>>=◌, checked, no_more}
 use Rattle.worm_text.specs.Reader.{at_line}
 use Rattle.worm_text.specs.Traffic.{Said, said, entry_view, turn_of, closes, is_closed, last_turn, entry_at, send_at}
@@ -158,35 +159,12 @@ room n count last closed (f ∷ fs) s e =
     below : {count : ℕ} → ltb count 10000 ≡ true → count < 10000
     below t = grind (arith, nat_tests)
 
--- ---- the number of nodes
-
-fold-grows : (a : ℕ) (ks : List ℕ) → All (λ k. 1 ≤ k) ks → a ≤ fold ◌*◌ a ks
-fold-grows a [] h = omega arith
-fold-grows a (k ∷ ks) h =
-    let one : 1 ≤ k = h 0 0 (omega arith) in
-    let rest = fold-grows (a * k) ks (λ i d lt. h (suc i) d (omega arith)) in
-    omega (arith, rest, mul-le a 1 a k (omega arith) one)
-
-pub nodes_more : (radices : List ℕ) (i : ℕ) → i < length radices → All (λ k. 1 ≤ k) radices → nodes_of radices ≤ 256
-    → (nodes_of (take (i + 1) radices) ≡ nodes_of (take i radices) * get_or radices i 0)
-    × (nodes_of (take (i + 1) radices) ≤ 256)
-nodes_more radices i lt h few =
-    let rest = drop (i + 1) radices in
-    let grown = fold-grows (nodes_of (take (i + 1) radices)) rest
-    (λ j d inside. rw get_or-drop (h (i + 1 + j) d (omega (arith, length-drop (i + 1) radices)))) in
-    let whole : nodes_of radices ≡ fold ◌*◌ (nodes_of (take (i + 1) radices)) rest =
-    ap nodes_of (sym (take-append-drop (i + 1) radices)) ∙ fold-append ◌*◌ 1 (take (i + 1) radices) rest in
-    (fold_more ◌*◌ 1 radices i 0 lt, omega (arith, grown, whole))
-
 -- ---- calls that did not fail
 
 pub on_ok : {T E : Type 0} (r : Result T E) (bad : Bool) (P : Type 0) → OnOk r P → is_ok r ≡ not bad → bad ≡ false → P
 on_ok (Ok x) bad P h n f = h
 on_ok (Err e) true P h n f = absurd cc
 on_ok (Err e) false P h n f = absurd cc
-
-pub nodes_some : (radices : List ℕ) → All (IsBetween 2 16) radices → 1 ≤ nodes_of radices
-nodes_some radices h = fold-grows 1 radices (λ i d lt. omega (arith, (h i d lt).0))
 
 header_piece : (n : Network) (l : List ℕ) (pieces : List (List ℕ)) → 0 < length pieces
     → bytes_eq l (codes "wormtraffic 1") ≡ false → read_header n (l ∷ pieces) ≡ Err (at_line 1 Header)

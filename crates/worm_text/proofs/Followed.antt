@@ -8,6 +8,7 @@ use Rattle.std.proofs.lemmas.Bool.Decides.{nat_tests}
 use Rattle.std.proofs.lemmas.List.{append-nil, length-replicate, get_or-replicate}
 use Rattle.std.proofs.lemmas.List.Elements.{All-nil, All-cons}
 use Rattle.std.proofs.lemmas.List.Splits.{join_with_byte-slice_split}
+use Rattle.worm_mesh.specs.Address.{node_count}
 use Rattle.worm_text.specs.declared.fault.Why.{Why}
 use Rattle.worm_text.specs.declared.fault.Why.TheVariants.{Header, Range}
 use Rattle.worm_text.specs.declared.format.Format.{Format}
@@ -15,7 +16,7 @@ use Rattle.worm_text.specs.declared.format.Format.TheVariants.{One, Two}
 use Rattle.worm_text.specs.declared.key.Key.TheVariants.{Radix, Dims, Depth}
 use Rattle.worm_text.specs.Lines.{cut, line, space}
 use Rattle.worm_text.specs.Numerals.{is_name}
-use Rattle.worm_text.specs.Network.{IsBetween, nodes_of, header_line, class_lines, mesh_lines, depth_line, lines_of}
+use Rattle.worm_text.specs.Network.{IsBetween, header_line, class_lines, mesh_lines, depth_line, lines_of}
 use Rattle.worm_text.specs.Network.{IsMesh, AreClasses}
 use Rattle.worm_text.specs.Reading.{◌>>=◌, number_at, no_more}
 use Rattle.worm_text.specs.Stages.{Stage, at_header, at_radix, at_dims, at_dims_first, at_radices, at_depth, at_class}
@@ -77,24 +78,24 @@ radix_follows l t e =
 
 -- ---- the mesh
 
-nodes_of-push : (radices : List ℕ) (k : ℕ) (more : List ℕ) → widened radices k ≡ fine more → nodes_of more ≤ 256
-nodes_of-push radices k more e =
-    let c = checked_ok (leb (nodes_of (radices ++ k ∷ [])) 256) Range (radices ++ k ∷ []) more e in
+nodes_push : (radices : List ℕ) (k : ℕ) (more : List ℕ) → widened radices k ≡ fine more → node_count more ≤ 256
+nodes_push radices k more e =
+    let c = checked_ok (leb (node_count (radices ++ k ∷ [])) 256) Range (radices ++ k ∷ []) more e in
     let t = c.0 in
-    subst (λ (rs : List ℕ). nodes_of rs ≤ 256) c.1 (grind (arith, nat_tests))
+    subst (λ (rs : List ℕ). node_count rs ≤ 256) c.1 (grind (arith, nat_tests))
 
 replicate-cons : (radices : List ℕ) (k n : ℕ) → (radices ++ k ∷ []) ++ replicate n k ≡ radices ++ replicate (suc n) k
 replicate-cons radices k n = append_assoc radices (k ∷ []) (replicate n k)
 
-copies_take : (n : ℕ) (radices : List ℕ) (k : ℕ) (rs : List ℕ) → nodes_of radices ≤ 256
-    → copies_at n radices k ≡ fine rs → (rs ≡ radices ++ replicate n k) × (nodes_of rs ≤ 256)
+copies_take : (n : ℕ) (radices : List ℕ) (k : ℕ) (rs : List ℕ) → node_count radices ≤ 256
+    → copies_at n radices k ≡ fine rs → (rs ≡ radices ++ replicate n k) × (node_count rs ≤ 256)
 unfolding copies_at
 copies_take zero radices k rs few e =
     let p = ok_is radices rs e in
-    (sym p ∙ sym (append-nil radices), subst (λ (x : List ℕ). nodes_of x ≤ 256) p few)
+    (sym p ∙ sym (append-nil radices), subst (λ (x : List ℕ). node_count x ≤ 256) p few)
 copies_take (suc n) radices k rs few e =
     let a = bind_ok (widened radices k) (λ more. copies_at n more k) rs e in
-    let rest = copies_take n a.0 k rs (nodes_of-push radices k a.0 a.1) a.2 in (
+    let rest = copies_take n a.0 k rs (nodes_push radices k a.0 a.1) a.2 in (
       rest.0 ∙ ap (λ (x : List ℕ). x ++ replicate n k) (widened_is radices k a.0 a.1) ∙ replicate-cons radices k n,
       rest.1,
     )
@@ -111,7 +112,7 @@ mesh_from_copies n k rs between each e =
     let made : IsMesh One (replicate n k) = record {
       dims = (omega arith, omega arith);
       each = All-replicate (IsBetween 2 16) n k each;
-      nodes = subst (λ (x : List ℕ). nodes_of x ≤ 256) c.0 c.1;
+      nodes = subst (λ (x : List ℕ). node_count x ≤ 256) c.0 c.1;
       alike = rw first (All-replicate (λ x. x ≡ k) n k refl);
     } in
     (subst (IsMesh One) (sym c.0) made, c.0)
@@ -164,9 +165,9 @@ record Radices (n : ℕ) (radices rs : List ℕ) (fields rest : List (List ℕ))
   fields-are : fields ≡ map decimal ks ++ rest
   len : length ks ≡ n
   each : All (IsBetween 2 16) ks
-  few : nodes_of rs ≤ 256
+  few : node_count rs ≤ 256
 
-radices_take : (n : ℕ) (radices rs : List ℕ) (fields rest : List (List ℕ)) → nodes_of radices ≤ 256
+radices_take : (n : ℕ) (radices rs : List ℕ) (fields rest : List (List ℕ)) → node_count radices ≤ 256
     → radices_at n radices fields ≡ fine (rs, rest) → Radices n radices rs fields rest
 unfolding radices_at
 radices_take zero radices rs fields rest few e =
@@ -179,13 +180,13 @@ radices_take zero radices rs fields rest few e =
       fields-are = rest-is;
       len = refl;
       each = All-nil (IsBetween 2 16);
-      few = subst (λ (x : List ℕ). nodes_of x ≤ 256) rs-is few;
+      few = subst (λ (x : List ℕ). node_count x ≤ 256) rs-is few;
     }
 radices_take (suc n) radices rs fields rest few e =
     let a = bind_ok (number_at 2 16 fields) (λ k. widened radices k.0 >>= λ more. radices_at n more k.1) (rs, rest) e in
     let b = bind_ok (widened radices a.0.0) (λ more. radices_at n more a.0.1) (rs, rest) a.2 in
     let k = number_at_takes 2 16 fields a.0.0 a.0.1 (lit< tt) a.1 in
-    let r = radices_take n b.0 rs a.0.1 rest (nodes_of-push radices a.0.0 b.0 b.1) b.2 in
+    let r = radices_take n b.0 rs a.0.1 rest (nodes_push radices a.0.0 b.0 b.1) b.2 in
     record {
       ks = a.0.0 ∷ r.ks;
       whole = r.whole ∙ ap (λ (x : List ℕ). x ++ r.ks) (widened_is radices a.0.0 b.0 b.1)

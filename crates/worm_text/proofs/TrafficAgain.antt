@@ -10,11 +10,12 @@ use Rattle.std.proofs.lemmas.Bool.Decides.{nat_tests}
 use Rattle.std.proofs.lemmas.List.{append-nil, length_push, length-append}
 use Rattle.std.proofs.lemmas.List.Elements.{Contains-append_left, Contains-append_right}
 use Rattle.std.proofs.lemmas.List.Sums.{position_or_len_is}
+use Rattle.worm_mesh.specs.Address.{node_count}
 use Rattle.worm_text.specs.declared.fault.Why.TheVariants.{OrderOfTurns, LaneClosed, TooMany, ManyChannels}
 use Rattle.worm_flit.specs.declared.Lane.{Lane}
 use Rattle.worm_text.specs.Lines.{cut, line, space, newline}
 use Rattle.worm_text.specs.Numerals.{is_name}
-use Rattle.worm_text.specs.Network.{Network, IsBetween, nodes_of, AreNew}
+use Rattle.worm_text.specs.Network.{Network, IsBetween, AreNew}
 use Rattle.worm_text.specs.Reading.{◌>>=◌, checked, number_at, no_more}
 use Rattle.worm_text.specs.Reader.{AreLines}
 use Rattle.worm_text.specs.Traffic.{Said, send, close, is_closed, last_turn, class_at, turn_at, lane_at}
@@ -31,7 +32,7 @@ use Rattle.worm_text.proofs.Entries.{entries-more, entries-end, header_good}
 
 -- what a network text promises of a network, as far as a traffic text needs it
 pub record IsNamed (n : Network) : Type 0 where
-  pub few : nodes_of n.radices ≤ 256
+  pub few : node_count n.radices ≤ 256
   pub spelled : All (λ name. is_name name ≡ true) n.classes
   pub apart : AreNew [] n.classes
 
@@ -93,7 +94,7 @@ lane_again : (n : Network) (before : List Said) (turn : ℕ) (lane : Lane) (rest
     → lane_at n (decimal lane.src ∷ decimal lane.dst ∷ get_or n.classes lane.class [] ∷ rest) ≡ fine (lane, rest)
 unfolding lane_at
 lane_again n before turn lane rest named p =
-    let high = nodes_of n.radices - 1 in
+    let high = node_count n.radices - 1 in
     let small : high < 2 ^ 64 = omega (arith, named.few) in
     let third = get_or n.classes lane.class [] ∷ rest in
     bind_at_ok (number_at 0 high (decimal lane.src ∷ decimal lane.dst ∷ third))

@@ -10,12 +10,13 @@ use Rattle.std.proofs.lemmas.Bool.Decides.{nat_tests}
 use Rattle.std.proofs.lemmas.List.{append-nil, length_push}
 use Rattle.std.proofs.lemmas.List.Elements.{All-nil, All-cons}
 use Rattle.std.proofs.lemmas.List.Sums.{passes_at_first}
+use Rattle.worm_mesh.specs.Address.{node_count}
 use Rattle.worm_text.specs.declared.fault.Why.{Why}
 use Rattle.worm_text.specs.declared.fault.Why.TheVariants.{Missing, Name, UnknownWord, OrderOfTurns, LaneClosed}
 use Rattle.worm_text.specs.declared.fault.Why.TheVariants.{TooMany, ManyChannels}
 use Rattle.worm_flit.specs.declared.Lane.{Lane}
 use Rattle.worm_text.specs.Lines.{cut, line, space}
-use Rattle.worm_text.specs.Network.{Network, IsBetween, nodes_of}
+use Rattle.worm_text.specs.Network.{Network, IsBetween}
 use Rattle.worm_text.specs.Reading.{◌>>=◌, checked, number_at, no_more}
 use Rattle.worm_text.specs.Traffic.{Said, send, close, is_closed, last_turn, class_at, turn_at, lane_at}
 use Rattle.worm_term.specs.Lanes.{lane_of}
@@ -80,15 +81,15 @@ class_takes names (f ∷ fs) c rest e =
 
 pub record LaneTaken (n : Network) (fields rest : List (List ℕ)) (lane : Lane) : Type 0 where
   pub fields-are : fields ≡ decimal lane.src ∷ decimal lane.dst ∷ get_or n.classes lane.class [] ∷ rest
-  pub src : IsBetween 0 (nodes_of n.radices - 1) lane.src
-  pub dst : IsBetween 0 (nodes_of n.radices - 1) lane.dst
+  pub src : IsBetween 0 (node_count n.radices - 1) lane.src
+  pub dst : IsBetween 0 (node_count n.radices - 1) lane.dst
   pub class : lane.class < length n.classes
 
-pub lane_takes : (n : Network) (fields rest : List (List ℕ)) (lane : Lane) → nodes_of n.radices ≤ 256
+pub lane_takes : (n : Network) (fields rest : List (List ℕ)) (lane : Lane) → node_count n.radices ≤ 256
     → lane_at n fields ≡ fine (lane, rest) → LaneTaken n fields rest lane
 unfolding lane_at
 lane_takes n fields rest lane few e =
-    let high = nodes_of n.radices - 1 in
+    let high = node_count n.radices - 1 in
     let a = bind_ok (number_at 0 high fields)
     (λ src. number_at 0 high src.1 >>= λ dst. class_at n.classes dst.1 >>= λ class. Ok (
       lane_of src.0 dst.0 class.0,
@@ -158,7 +159,7 @@ pub record Entered (n : Network) (before : List Said) (l : List ℕ) (e : Said) 
   pub keeps : IsEntry n before e
 
 -- a line that is judged to be an entry
-pub send_takes : (n : Network) (before : List Said) (fields : List (List ℕ)) (e : Said) → nodes_of n.radices ≤ 256
+pub send_takes : (n : Network) (before : List Said) (fields : List (List ℕ)) (e : Said) → node_count n.radices ≤ 256
     → length before < 10000 → send_at n (last_turn before) (is_closed before) fields ≡ fine e
     → (line (codes "send" ∷ fields) ≡ entry_line n e) × IsEntry n before e
 unfolding send_at
@@ -196,7 +197,7 @@ send_takes n before fields e few room q =
     subst (λ (x : Said). (line (codes "send" ∷ fields) ≡ entry_line n x) × IsEntry n before x)
     (ok_is (send a.0.0 b.0.0 d.0) e d.2) (ap (λ (fs : List (List ℕ)). line (codes "send" ∷ fs)) fields-are, keeps)
 
-pub close_takes : (n : Network) (before : List Said) (fields : List (List ℕ)) (e : Said) → nodes_of n.radices ≤ 256
+pub close_takes : (n : Network) (before : List Said) (fields : List (List ℕ)) (e : Said) → node_count n.radices ≤ 256
     → length before < 10000 → close_at n (last_turn before) (is_closed before) fields ≡ fine e
     → (line (codes "close" ∷ fields) ≡ entry_line n e) × IsEntry n before e
 unfolding close_at
@@ -252,7 +253,7 @@ behind_word n before word f fs step e w h =
     )
 
 pub entry_takes : (n : Network) (before : List Said) (l : List ℕ) (fields : List (List ℕ)) (e : Said)
-    → nodes_of n.radices ≤ 256 → cut space l ≡ fields
+    → node_count n.radices ≤ 256 → cut space l ≡ fields
     → entry_at n (length before) (last_turn before) (is_closed before) fields ≡ fine (Some e)
     → (l ≡ entry_line n e) × IsEntry n before e
 unfolding entry_at

@@ -3,6 +3,7 @@ use Rattle.std.proofs.Common.{◌≡◌, ℕ, suc, ◌≤◌, List, [], ◌∷�
 use Rattle.std.proofs.Common.{sym, ap, subst, ◌∙◌, append_assoc, inl, inr, map}
 use Rattle.std.specs.Prelude.{codes, IfOk}
 use Rattle.worm_script.specs.declared.entry.Entry.{Entry}
+use Rattle.worm_mesh.specs.Address.{node_count}
 use Rattle.worm_text.specs.ScriptView.{said_of}
 use Rattle.std.specs.Str.{bytes_eq}
 use Rattle.std.proofs.lemmas.List.{append-nil}
@@ -10,7 +11,7 @@ use Rattle.worm_text.specs.declared.fault.Why.{Why}
 use Rattle.worm_text.specs.declared.fault.Why.TheVariants.{Header, AfterEnd}
 use Rattle.worm_text.specs.declared.fault.TextFault.{TextFault}
 use Rattle.worm_text.specs.Lines.{cut, space, newline}
-use Rattle.worm_text.specs.Network.{Network, nodes_of}
+use Rattle.worm_text.specs.Network.{Network}
 use Rattle.worm_text.specs.Reader.{at_line}
 use Rattle.worm_text.specs.Traffic.{Said, is_closed, last_turn, entry_at, after_end, read_entries, read_header}
 use Rattle.worm_text.specs.Traffic.{traffic_of}
@@ -41,7 +42,7 @@ after_end_ok before all line ((b ∷ bs) ∷ qs) e =
     absurd (let x : ◌≡◌ {A = Result (List Said) TextFault} (Err (at_line line AfterEnd)) (Ok all) = e in cc)
 
 step : (n : Network) (before all : List Said) (line : ℕ) (l next : List ℕ) (more : List (List ℕ))
-    → nodes_of n.radices ≤ 256
+    → node_count n.radices ≤ 256
     → (again : (e : Said) → read_entries n (before ++ e ∷ []) (suc line) (next ∷ more) ≡ good all
     → Spelled n (before ++ e ∷ []) all (next ∷ more))
     → (r : Result (Option Said) Why) → entry_at n (length before) (last_turn before) (is_closed before) (cut space l)
@@ -74,7 +75,7 @@ step n before all line l next more few again (Ok (Some x)) j e =
           ∙ ap (λ (ps : List (List ℕ)). entry_line n x ∷ ps) r.pieces-are;
     }
 
-spelled : (n : Network) (before all : List Said) (line : ℕ) (pieces : List (List ℕ)) → nodes_of n.radices ≤ 256
+spelled : (n : Network) (before all : List Said) (line : ℕ) (pieces : List (List ℕ)) → node_count n.radices ≤ 256
     → read_entries n before line pieces ≡ good all → Spelled n before all pieces
 spelled n before all line [] few e = absurd cc
 spelled n before all line (p ∷ []) few e = absurd cc
@@ -82,7 +83,7 @@ spelled n before all line (l ∷ next ∷ more) few e =
     step n before all line l next more few (λ x h. spelled n (before ++ x ∷ []) all (suc line) (next ∷ more) few h)
     (entry_at n (length before) (last_turn before) (is_closed before) (cut space l)) refl e
 
-pub is_traffic : (n : Network) (bytes : List ℕ) (all : List Said) → nodes_of n.radices ≤ 256
+pub is_traffic : (n : Network) (bytes : List ℕ) (all : List Said) → node_count n.radices ≤ 256
     → traffic_of n bytes ≡ good all → AreEntries n [] all × (bytes ≡ traffic_text n all)
 is_traffic n bytes all few e = pieces (cut newline bytes) refl e
   where
@@ -108,7 +109,7 @@ is_traffic n bytes all few e = pieces (cut newline bytes) refl e
               )
         ]
 
-pub found : (n : Network) (bytes : List ℕ) (r : Result (List Entry) TextFault) → nodes_of n.radices ≤ 256
+pub found : (n : Network) (bytes : List ℕ) (r : Result (List Entry) TextFault) → node_count n.radices ≤ 256
     → AnswersOrFull said_of (IsEntryLine n bytes) r (traffic_of n bytes)
     → IfOk r (λ script. AreEntries n [] (said_of script) × (bytes ≡ traffic_text n (said_of script)))
 found n bytes (Ok script) few h = is_traffic n bytes (said_of script) few h

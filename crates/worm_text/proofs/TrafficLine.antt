@@ -8,12 +8,13 @@ use Rattle.std.proofs.lemmas.Bool.{cases_lt}
 use Rattle.std.proofs.lemmas.List.{append-nil, length-append, length-map}
 use Rattle.std.proofs.lemmas.List.Concat.{flat_map-append}
 use Rattle.worm_script.specs.declared.entry.Entry.{Entry}
+use Rattle.worm_mesh.specs.Address.{node_count}
 use Rattle.worm_text.specs.ScriptView.{said_of}
 use Rattle.worm_text.specs.declared.fault.Why.{Why}
 use Rattle.worm_text.specs.declared.fault.Why.TheVariants.{Header, NoEnd, AfterEnd}
 use Rattle.worm_text.specs.declared.fault.TextFault.{TextFault}
 use Rattle.worm_text.specs.Lines.{cut, space, newline, finished}
-use Rattle.worm_text.specs.Network.{Network, nodes_of}
+use Rattle.worm_text.specs.Network.{Network}
 use Rattle.worm_text.specs.Reader.{at_line, AreLines}
 use Rattle.worm_text.specs.Traffic.{Said, entry_at, after_end, read_entries, read_header, traffic_of}
 use Rattle.worm_text.specs.TrafficText.{entry_line, traffic_lines, traffic_text, IsEntry, AreEntries}
@@ -93,7 +94,7 @@ after_end_err before line ([] ∷ q ∷ qs) x e = named_line line AfterEnd x e
 after_end_err before line ((b ∷ bs) ∷ qs) x e = named_line line AfterEnd x e
 
 step : (n : Network) (before : List Said) (line : ℕ) (l next : List ℕ) (more : List (List ℕ)) (x : TextFault)
-    → nodes_of n.radices ≤ 256
+    → node_count n.radices ≤ 256
     → (again : (e : Said) → read_entries n (before ++ e ∷ []) (suc line) (next ∷ more) ≡ bad x
     → Stopped n (before ++ e ∷ []) (suc line) (next ∷ more) x)
     → (r : Result (Option Said) Why) → judged n before l ≡ r
@@ -116,7 +117,7 @@ step n before line l next more x few again (Ok (Some s)) j e =
     (stopped_later n before line s (next ∷ more) x t.1 (again s e))
 
 stopped : (n : Network) (before : List Said) (line : ℕ) (pieces : List (List ℕ)) (x : TextFault)
-    → nodes_of n.radices ≤ 256 → 0 < length pieces → read_entries n before line pieces ≡ bad x
+    → node_count n.radices ≤ 256 → 0 < length pieces → read_entries n before line pieces ≡ bad x
     → Stopped n before line pieces x
 stopped n before line [] x few lt e = absurd (omega arith)
 stopped n before line (p ∷ []) x few lt e = stopped_here n before line p [] x (over refl (named_line line NoEnd x e))

@@ -6,8 +6,9 @@ use Rattle.std.specs.List.{join_with_byte}
 use Rattle.std.specs.Str.{bytes_eq}
 use Rattle.std.proofs.lemmas.List.{append-nil, length_push, length-map, map_push}
 use Rattle.worm_script.specs.declared.entry.Entry.{Entry}
+use Rattle.worm_mesh.specs.Address.{node_count}
 use Rattle.worm_text.specs.Lines.{cut, space, newline}
-use Rattle.worm_text.specs.Network.{Network, nodes_of}
+use Rattle.worm_text.specs.Network.{Network}
 use Rattle.worm_text.specs.Traffic.{Said, entry_view}
 use Rattle.worm_text.specs.TrafficText.{entry_line, IsEntry, AreEntries}
 use Rattle.worm_text.specs.TrafficFaults.{AnswersOrFull, IsEntryLine, IsEntryPiece}
@@ -36,7 +37,7 @@ pub record AreRead (n : Network) (entries : List Said) (pieces : List (List ℕ)
 
 -- one more
 pub read_one : (n : Network) (es : List Entry) (e : Entry) (pieces : List (List ℕ)) (rest front after : List ℕ)
-    → nodes_of n.radices ≤ 256 → cut newline rest ≡ front ∷ cut newline after
+    → node_count n.radices ≤ 256 → cut newline rest ≡ front ∷ cut newline after
     → AreRead n (map entry_view es) pieces rest → judged n (map entry_view es) front ≡ fine (Some (entry_view e))
     → AreRead n (map entry_view (es ++ e ∷ [])) pieces after
 read_one n es e pieces rest front after few cuts so_far j =

@@ -3,6 +3,7 @@ use Rattle.std.specs.Prelude.{◌≡◌, ℕ, ◌*◌, ◌≤◌, List, [], ◌�
 use Rattle.std.specs.Prelude.{slice_index, true}
 use Rattle.std.specs.Fmt.{decimal}
 use Rattle.arrayvec.specs.ArrayString.{ArrayString}
+use Rattle.worm_mesh.specs.Address.{node_count}
 use Rattle.worm_region.specs.declared.config.Config.{Config}
 use Rattle.worm_text.specs.declared.format.Format.{Format}
 use Rattle.worm_text.specs.declared.format.Format.TheVariants.{One, Two}
@@ -26,10 +27,6 @@ view c = record {
   classes = names_of c.classes.items;
   channels = c.channels.items;
 }
-
--- how many nodes a mesh of these radices has
-abbrev pub nodes_of : List ℕ → ℕ
-nodes_of radices = fold ◌*◌ 1 radices
 
 -- ---- the text
 
@@ -86,7 +83,7 @@ AreSingle Two channels = Unit {0}
 pub record IsMesh (f : Format) (radices : List ℕ) : Type 0 where
   pub dims : IsBetween 1 3 (length radices)
   pub each : All (IsBetween 2 16) radices
-  pub nodes : nodes_of radices ≤ 256
+  pub nodes : node_count radices ≤ 256
   pub alike : AreAlike f radices
 
 pub record AreClasses (f : Format) (names : List (List ℕ)) (channels : List ℕ) : Type 0 where

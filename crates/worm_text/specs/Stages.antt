@@ -3,6 +3,7 @@ use Rattle.std.specs.Prelude.{ℕ, zero, suc, ◌+◌, List, [], ◌∷◌, ◌+
 use Rattle.std.specs.Prelude.{if◌then◌else◌, codes}
 use Rattle.std.specs.Str.{bytes_eq}
 use Rattle.std.specs.List.{list_any}
+use Rattle.worm_mesh.specs.Address.{node_count}
 use Rattle.worm_text.specs.declared.fault.Why.{Why}
 use Rattle.worm_text.specs.declared.fault.Why.TheVariants.{Header, Missing, Range, Repeated, TooMany, AfterEnd}
 use Rattle.worm_text.specs.declared.format.Format.{Format}
@@ -10,7 +11,7 @@ use Rattle.worm_text.specs.declared.format.Format.TheVariants.{One, Two}
 use Rattle.worm_text.specs.declared.key.Key.{Key}
 use Rattle.worm_text.specs.declared.key.Key.TheVariants.{Radix, Dims, Depth, Class, End}
 use Rattle.worm_text.specs.Lines.{cut, space}
-use Rattle.worm_text.specs.Network.{Network, nodes_of, IsBetween, IsMesh, AreClasses, Keeps}
+use Rattle.worm_text.specs.Network.{Network, IsBetween, IsMesh, AreClasses, Keeps}
 use Rattle.worm_text.specs.Reading.{◌>>=◌, checked, number_at, name_at, word_at, key_at, expected, no_more}
 
 -- where a reader is, and what the lines so far have said
@@ -36,7 +37,7 @@ begins wanted earlier fields = do
 
 -- one dimension more, where the nodes allow it
 abbrev pub widened : List ℕ → ℕ → Result (List ℕ) Why
-widened radices k = checked (nat_le (nodes_of (radices ++ k ∷ [])) 256) Range (radices ++ k ∷ [])
+widened radices k = checked (nat_le (node_count (radices ++ k ∷ [])) 256) Range (radices ++ k ∷ [])
 
 -- so many dimensions more of one radix
 unfoldable pub copies_at : ℕ → List ℕ → ℕ → Result (List ℕ) Why

@@ -5,6 +5,7 @@ use Rattle.std.specs.Ordering.{nat_cmp, ordering_then}
 use Rattle.std.specs.declared.cmp.Ordering.{Ordering}
 use Rattle.std.specs.Str.{bytes_eq}
 use Rattle.std.specs.List.{list_any, position_or_len}
+use Rattle.worm_mesh.specs.Address.{node_count}
 use Rattle.worm_text.specs.declared.fault.Why.{Why}
 use Rattle.worm_text.specs.declared.fault.Why.TheVariants.{Header, Missing, Name, UnknownWord, OrderOfTurns, LaneClosed}
 use Rattle.worm_text.specs.declared.fault.Why.TheVariants.{TooMany, ManyChannels, NoEnd, AfterEnd}
@@ -15,7 +16,7 @@ use Rattle.worm_script.specs.declared.entry.Act.{Act}
 use Rattle.worm_script.specs.declared.entry.Act.TheVariants as act
 use Rattle.worm_script.specs.declared.entry.Entry.{Entry}
 use Rattle.worm_text.specs.Lines.{cut, space, newline}
-use Rattle.worm_text.specs.Network.{Network, nodes_of}
+use Rattle.worm_text.specs.Network.{Network}
 use Rattle.worm_text.specs.Reading.{◌>>=◌, checked, number_at, no_more}
 use Rattle.worm_text.specs.Reader.{at_line}
 
@@ -71,8 +72,8 @@ turn_at last fields = do
 
 unfoldable pub lane_at : Network → List (List ℕ) → Result (Lane × List (List ℕ)) Why
 lane_at n fields = do
-  src ← number_at 0 (nodes_of n.radices - 1) fields
-  dst ← number_at 0 (nodes_of n.radices - 1) src.1
+  src ← number_at 0 (node_count n.radices - 1) fields
+  dst ← number_at 0 (node_count n.radices - 1) src.1
   class ← class_at n.classes dst.1
   Ok (lane_of src.0 dst.0 class.0, class.1)
 

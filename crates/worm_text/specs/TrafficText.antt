@@ -3,8 +3,9 @@ use Rattle.std.specs.Prelude.{◌≡◌, ℕ, ◌-◌, ◌<◌, ◌≤◌, List,
 use Rattle.std.specs.Prelude.{slice_index_or, false}
 use Rattle.std.specs.Fmt.{decimal}
 use Rattle.worm_flit.specs.declared.Lane.{Lane}
+use Rattle.worm_mesh.specs.Address.{node_count}
 use Rattle.worm_text.specs.Lines.{line, finished}
-use Rattle.worm_text.specs.Network.{Network, nodes_of, IsBetween}
+use Rattle.worm_text.specs.Network.{Network, IsBetween}
 use Rattle.worm_text.specs.Traffic.{Said, send, close, is_closed, last_turn}
 
 -- turn, source, destination, class
@@ -27,8 +28,8 @@ pub record IsPlaced (n : Network) (before : List Said) (turn : ℕ) (lane : Lane
   pub room : length before < 10000
   pub turn_small : turn ≤ 1000000
   pub in_order : last_turn before ≤ turn
-  pub src : IsBetween 0 (nodes_of n.radices - 1) lane.src
-  pub dst : IsBetween 0 (nodes_of n.radices - 1) lane.dst
+  pub src : IsBetween 0 (node_count n.radices - 1) lane.src
+  pub dst : IsBetween 0 (node_count n.radices - 1) lane.dst
   pub class : lane.class < length n.classes
   pub open_lane : is_closed before lane ≡ false
 

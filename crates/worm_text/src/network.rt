@@ -1,8 +1,9 @@
 //! The text of a network, line by line.
 
 ghost use Rattle.std.specs.Prelude.{◌≡◌, ◌≤◌, ◌<◌, [], length, sum, Ok, IfOk, IfErr};
+ghost use Rattle.worm_mesh.specs.Address.{node_count};
 ghost use Rattle.worm_text.specs.Reading.{Reads, Gives};
-ghost use Rattle.worm_text.specs.Network.{Network, Keeps, text, nodes_of, view, names_of};
+ghost use Rattle.worm_text.specs.Network.{Network, Keeps, text, view, names_of};
 ghost use Rattle.worm_text.specs.Stages.{begins, widened, copies_at, radices_at, header_stage, radix_stage, dims_stage};
 ghost use Rattle.worm_text.specs.Stages.{dims_first_stage, radices_stage, depth_stage, new_name_at, channels_at};
 ghost use Rattle.worm_text.specs.Stages.{one_class, the_end, class_stage, judge};
@@ -107,7 +108,7 @@ fn radix_line(fields: &mut Fields<'_>) -> Result<Stage, Why>
 struct Shape {
     radices: ArrayVec<u8, 3>,
     nodes: u32,
-    ghost counted: { nodes ≡ nodes_of radices.items },
+    ghost counted: { nodes ≡ node_count radices.items },
     ghost few: { nodes ≤ 256 },
 }
 
@@ -123,6 +124,7 @@ impl Shape {
     }
 
     /// Adds a dimension. `Range` where there are more than 256 nodes then.
+    #[tactic(auto, using(crate::proofs::NodeCounts::nodes_push))]
     fn widen(&mut self, radix: u8) -> Result<(), Why>
         requires { length self.old.radices.items < 3 }
         ensures { Gives (λ _. self.new.radices.items) result (widened self.old.radices.items radix) }

@@ -2,13 +2,14 @@
 
 ghost use Rattle.std.specs.Prelude.{◌≡◌, ◌≤◌, ◌<◌, ◌-◌, [], ◌==◌, length, position, Some, None};
 ghost use Rattle.std.specs.Prelude.{OnOk, IfOk, IfErr, Ok, ◌⊎◌, List, ◌||◌, All, false};
+ghost use Rattle.worm_mesh.specs.Address.{node_count};
 ghost use Rattle.worm_text.specs.TrafficText.{AreEntries, traffic_text};
 ghost use Rattle.worm_text.specs.ScriptView.{said_of};
 ghost use Rattle.std.specs.Option.{option_map};
 ghost use Rattle.std.specs.Str.{bytes_eq};
 ghost use Rattle.std.specs.BTreeSet.{contains};
 ghost use Rattle.worm_text.specs.Reading.{Reads, Gives};
-ghost use Rattle.worm_text.specs.Network.{view, nodes_of, names_of, Keeps};
+ghost use Rattle.worm_text.specs.Network.{view, names_of, Keeps};
 ghost use Rattle.worm_text.specs.declared.format.Format.{Format};
 ghost use Rattle.worm_text.specs.Traffic.{Said, class_at, turn_at, lane_at, words_at, send_at, close_at, entry_at};
 ghost use Rattle.worm_text.specs.Traffic.{entry_view, same_lane, lane_cmp, closes, read_entries};
@@ -27,9 +28,6 @@ use worm_flit::{Lane, Packet};
 
 /// The most entries that a text may have.
 const MOST_ENTRIES: usize = 10_000;
-
-/// The bytes of the shortest line of an entry, `close 0 0 0 a` and its end.
-const LEAST_LINE: usize = 14;
 
 /// Which of the classes has the name.
 fn place_of(name: &[u8], classes: &[Name]) -> Option<usize>
@@ -171,7 +169,7 @@ struct Standing<'a> {
     last: u32,
     /// The lanes that they closed.
     closed: &'a ClosedLanes,
-    ghost counted: { nodes ≡ nodes_of config.now.radices.items },
+    ghost counted: { nodes ≡ node_count config.now.radices.items },
     ghost some: { 1 ≤ nodes },
     ghost few: { nodes ≤ 256 },
 }
@@ -260,25 +258,14 @@ impl<'a> Standing<'a> {
 /// How many nodes these radices make.
 fn node_count(radices: &[u8]) -> u32
     requires each { All (λ k. 1 ≤ k) radices.now }
-    requires few { nodes_of radices.now ≤ 256 }
-    ensures { result ≡ nodes_of radices.now }
+    requires few { node_count radices.now ≤ 256 }
+    ensures { result ≡ node_count radices.now }
 {
     let mut nodes = 1;
     for radix in radices {
         nodes *= u32::from(*radix);
     }
     nodes
-}
-
-/// A script with no entry, and memory for those that these lines may say, so that its lists need not grow line by line
-/// and be copied. Where it is refused each line asks for its own.
-fn script_for(alloc: Global, rest: &[u8]) -> Script
-    ensures { result ≡ [] }
-{
-    let mut script = Script::empty(alloc);
-    let entries = (rest.len() / LEAST_LINE).min(MOST_ENTRIES);
-    let _ = script.make_room(entries);
-    script
 }
 
 /// The lines behind the header, entry after entry.
@@ -288,13 +275,13 @@ fn read_entries(
     config: &Config,
     nodes: u32,
 ) -> Result<Script, TextFault>
-    requires counted { nodes ≡ nodes_of config.now.radices.items }
+    requires counted { nodes ≡ node_count config.now.radices.items }
     requires some { 1 ≤ nodes }
     requires few { nodes ≤ 256 }
     ensures { AnswersOrFull said_of (IsEntryPiece (view config.now) (cut newline rest.now)) result
         (read_entries (view config.now) [] 2 (cut newline rest.now)) }
 {
-    let mut script = script_for(alloc, rest);
+    let mut script = Script::empty(alloc);
     let mut closed = ClosedLanes::new(alloc);
     let mut last = 0;
     let mut line = 2;

@@ -8,7 +8,7 @@ use Rattle.worm_theory.specs.Network.{Network, same}
 use Rattle.worm_theory.specs.Steps.{gave_to, got}
 use Rattle.worm_theory.specs.Sound.{LinksFit, CreditsAdd, CreditsAreChannels, Sound}
 use Rattle.worm_theory.proofs.Places.{number_cases, place_cases, same-true, same-false}
-use Rattle.worm_theory.proofs.Meshes.{same_end, same_start}
+use Rattle.worm_theory.proofs.MeshLaws.{same_end, same_start}
 
 -- one more of this channel at the end
 pub count-push : (v c : ℕ) (cs : List ℕ)

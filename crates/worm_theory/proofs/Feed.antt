@@ -12,7 +12,7 @@ use Rattle.worm_theory.specs.Sound.{LinksRun, SourcesRun, RecordsAgree, BuffersF
 use Rattle.worm_theory.specs.Sound.{Sound, unfed_on, InBuffer, IsFrom}
 use Rattle.worm_theory.proofs.Runs.{Runs-shift}
 use Rattle.worm_theory.proofs.Places.{number_cases, place_cases, place3_cases, same-true, same-false}
-use Rattle.worm_theory.proofs.Meshes.{is_mesh_start}
+use Rattle.worm_theory.proofs.MeshLaws.{is_mesh_start}
 use Rattle.worm_theory.proofs.Agreement.{Agrees-push}
 
 module _ (s : Shape) (mesh : IsMesh s) (net : Network) (x k : ℕ) (class_there : k < s.classes) (f : Flit)

@@ -14,7 +14,7 @@ use Rattle.worm_theory.specs.Steps.{next_number, Enabled, offered, fed, routed, 
 use Rattle.worm_theory.specs.Steps.{got, after, StepsLead}
 use Rattle.worm_theory.specs.Growth.{SinksGrow, SourcesGrow}
 use Rattle.worm_theory.proofs.Places.{place_cases, same-false}
-use Rattle.worm_theory.proofs.Meshes.{is_mesh_start}
+use Rattle.worm_theory.proofs.MeshLaws.{is_mesh_start}
 use Rattle.worm_theory.proofs.Lists.{any_list}
 
 pub sinks_same : (s : Shape) (net : Network) → SinksGrow s net net

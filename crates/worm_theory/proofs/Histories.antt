@@ -6,11 +6,11 @@ use Rattle.worm_flit.specs.declared.Kind.TheVariants.{Head, Body}
 use Rattle.worm_flit.specs.declared.Flit.{Flit}
 use Rattle.worm_flit.specs.Kinds.{closes}
 use Rattle.worm_flit.specs.Stamps.{bare, is_of_lane, of_lane}
-use Rattle.worm_flit.specs.Packets.{flit, later_flits, packet_flits, mark}
+use Rattle.worm_flit.specs.Packets.{History, closed, flit, fresh, later_flits, mark, packet, packet_flits}
 use Rattle.worm_flit.specs.Worms.{latest}
 use Rattle.worm_theory.specs.Network.{Network}
 use Rattle.worm_theory.specs.Steps.{lane_injected, next_number}
-use Rattle.worm_theory.specs.Sound.{IsHistory, History, fresh, packet, closed}
+use Rattle.worm_theory.specs.Sound.{IsHistory}
 use Rattle.worm_theory.specs.PacketCut.{packet_held, IsWhole}
 use Rattle.worm_theory.specs.OpenPast.{NoneCloses}
 use Rattle.worm_theory.proofs.Places.{number_cases, bool_cases, and_false_r}

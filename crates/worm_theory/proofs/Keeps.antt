@@ -12,7 +12,8 @@ use Rattle.worm_records.specs.declared.InRecord.TheVariants.{Idle, Waiting, Acti
 use Rattle.worm_theory.specs.Steps.{Step, Offer, CloseLane, Feed, Route, Grant, Send, Take, GiveCredit, TakeCredit}
 use Rattle.worm_theory.specs.Steps.{FrontIs, IsWaitingAt, IsActiveAt, IsLinked, IsPort, IsThere, MaySend, Enabled, fed}
 use Rattle.worm_theory.specs.Steps.{routed, granted, sent, taken, taken_from, gave, got, after, StepsLead, empty}
-use Rattle.worm_theory.specs.Sound.{Sound, InBuffer, Leaves, IsFrom, fresh}
+use Rattle.worm_flit.specs.Packets.{fresh}
+use Rattle.worm_theory.specs.Sound.{Sound, InBuffer, Leaves, IsFrom}
 use Rattle.worm_theory.proofs.Lists.{any_list}
 use Rattle.worm_theory.proofs.Take.{take_sound}
 use Rattle.worm_theory.proofs.Feed.{feed_sound}

@@ -7,11 +7,11 @@ use Rattle.worm_flit.specs.declared.Lane.{Lane}
 use Rattle.worm_flit.specs.declared.Flit.{Flit}
 use Rattle.worm_flit.specs.Stamps.{bare, of_lane}
 use Rattle.worm_flit.specs.Kinds.{is_mark}
-use Rattle.worm_flit.specs.Packets.{mark, packet_flits}
+use Rattle.worm_flit.specs.Packets.{History, closed, fresh, mark, packet, packet_flits}
 use Rattle.worm_theory.specs.Shape.{Shape, IsMesh, HasLane, Owns, OwnsAlone}
 use Rattle.worm_theory.specs.Network.{Network}
 use Rattle.worm_theory.specs.Steps.{Step, StepsLead, has_mark, lane_injected}
-use Rattle.worm_theory.specs.Sound.{Sound, History, fresh, packet, closed}
+use Rattle.worm_theory.specs.Sound.{Sound}
 use Rattle.worm_theory.specs.Cut.{held, delivered, underway, LanesCut}
 use Rattle.worm_theory.specs.Growth.{NothingMore, SinksGrow}
 use Rattle.worm_theory.proofs.Places.{bool_cases}

@@ -8,12 +8,12 @@ use Rattle.worm_flit.specs.declared.Lane.{Lane}
 use Rattle.worm_flit.specs.declared.Flit.{Flit}
 use Rattle.worm_flit.specs.Kinds.{closes, is_mark}
 use Rattle.worm_flit.specs.Stamps.{of_lane, is_of_lane}
-use Rattle.worm_flit.specs.Packets.{packet_flits, mark}
+use Rattle.worm_flit.specs.Packets.{closed, mark, packet, packet_flits}
 use Rattle.worm_theory.specs.Worm.{Between, Runs, worm_after}
 use Rattle.worm_theory.specs.Shape.{Shape, HasLane}
 use Rattle.worm_theory.specs.Network.{Network}
 use Rattle.worm_theory.specs.Steps.{offered, packets_in, has_mark, lane_injected, next_number, Accepts}
-use Rattle.worm_theory.specs.Sound.{SourcesRun, UnfedHold, AcceptedHold, HistoriesHold, IsHistory, packet, closed}
+use Rattle.worm_theory.specs.Sound.{SourcesRun, UnfedHold, AcceptedHold, HistoriesHold, IsHistory}
 use Rattle.worm_theory.specs.Sound.{Sound, IsFrom}
 use Rattle.worm_theory.proofs.Runs.{Runs-append}
 use Rattle.worm_theory.proofs.Places.{number_cases, place_cases, same-true}

@@ -10,7 +10,7 @@ use Rattle.worm_theory.specs.Steps.{IsThere, fed, routed, granted, sent, taken, 
 use Rattle.worm_theory.specs.Steps.{empty}
 use Rattle.worm_theory.specs.Sound.{OthersIdle}
 use Rattle.worm_theory.proofs.Places.{place3_cases}
-use Rattle.worm_theory.proofs.Meshes.{is_mesh_port}
+use Rattle.worm_theory.proofs.MeshLaws.{is_mesh_port}
 use Rattle.worm_theory.proofs.Lists.{any_list}
 
 module _ (s : Shape) (mesh : IsMesh s) (net : Network) (idle : OthersIdle s net) where

@@ -5,11 +5,11 @@ use Rattle.std.specs.List.{IsDistinct, AllByRecursion}
 use Rattle.worm_flit.specs.declared.Lane.{Lane}
 use Rattle.worm_flit.specs.declared.Flit.{Flit}
 use Rattle.worm_flit.specs.Stamps.{bare}
-use Rattle.worm_flit.specs.Packets.{later_flits, packet_flits}
+use Rattle.worm_flit.specs.Packets.{History, closed, fresh, later_flits, packet, packet_flits}
 use Rattle.worm_theory.specs.Shape.{Shape, HasLane, Owns, OwnsAlone}
 use Rattle.worm_theory.specs.Network.{Network}
 use Rattle.worm_theory.specs.Steps.{lane_injected}
-use Rattle.worm_theory.specs.Sound.{Sound, History, fresh, packet, closed}
+use Rattle.worm_theory.specs.Sound.{Sound}
 use Rattle.worm_theory.specs.Cut.{same_stamp, delivered, underway, LanesCut}
 use Rattle.worm_theory.proofs.Places.{number_cases}
 

@@ -12,7 +12,7 @@ use Rattle.worm_theory.specs.Sound.{LinksRun, SourcesRun, SinksRun, RecordsAgree
 use Rattle.worm_theory.specs.Sound.{BuffersHold, Sound, InBuffer, Leaves}
 use Rattle.worm_theory.proofs.Runs.{Runs-shift}
 use Rattle.worm_theory.proofs.Places.{number_cases, place_cases, place3_cases, same-true, same-false}
-use Rattle.worm_theory.proofs.Meshes.{same_end, same_start, is_mesh_port, is_mesh_start}
+use Rattle.worm_theory.proofs.MeshLaws.{same_end, same_start, is_mesh_port, is_mesh_start}
 use Rattle.worm_theory.proofs.Agreement.{Agrees-push}
 
 module _ (s : Shape) (mesh : IsMesh s) (net : Network) (x p y : ℕ) (linked : s.neighbour x p ≡ Some y) (f : Flit)

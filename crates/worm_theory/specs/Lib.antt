@@ -10,3 +10,15 @@ pub mod ChannelCut
 pub mod OpenPast
 pub mod Growth
 pub mod Marks
+pub mod Parts
+pub mod PartSound
+pub mod Links
+pub mod PartSteps
+pub mod Join
+pub mod Openings
+pub mod Region
+pub mod Whole
+pub mod ShapeOf
+pub mod Standing
+pub mod LaneMoves
+pub mod PacketPlaces

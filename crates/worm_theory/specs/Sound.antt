@@ -6,7 +6,7 @@ use Rattle.std.specs.List.{All, count_by}
 use Rattle.worm_flit.specs.declared.Lane.{Lane}
 use Rattle.worm_flit.specs.declared.Flit.{Flit}
 use Rattle.worm_flit.specs.Stamps.{on_channel}
-use Rattle.worm_flit.specs.Packets.{packet_flits, mark}
+use Rattle.worm_flit.specs.Packets.{History}
 use Rattle.worm_theory.specs.Worm.{Worm, Between, Runs, worm_after, lane_at}
 use Rattle.worm_theory.specs.Shape.{Shape, HasLane, Owns, OwnsOne, Enters}
 use Rattle.worm_theory.specs.Network.{Network, upstream}
@@ -105,14 +105,7 @@ UnfedHold s net = (x k : ℕ) → All (IsFrom s x k) (net.unfed x k)
 abbrev pub AcceptedHold : Shape → Network → Type 0
 AcceptedHold s net = (x k : ℕ) → All (IsFrom s x k) (net.injected x k)
 
--- n packets of 1 to 32 words and marks of a lane, numbered from 0; the flag says whether the last is a mark
-pub data History (lane : Lane) : ℕ → Bool → List Flit → Type 0 where
-  fresh : History lane 0 false []
-  packet : {n : ℕ} {fs : List Flit} (words : List ℕ) → 0 < length words → length words ≤ 32 → History lane n false fs
-      → History lane (n + 1) false (fs ++ packet_flits lane n words)
-  closed : {n : ℕ} {fs : List Flit} → History lane n false fs → History lane (n + 1) true (fs ++ mark lane n ∷ [])
-
--- a lane's list is such a history
+-- a lane's list is a history of its packets and its mark
 abbrev pub IsHistory : Lane → List Flit → Type 0
 IsHistory lane fs = History lane (packets_in fs) (has_mark fs) fs
 

@@ -1,9 +1,10 @@
 -- What a call that writes tells, where both texts are accepted.
-use Rattle.std.proofs.Common.{◌≡◌, ◌++◌, ◌∙◌, ℕ, Bool, List, Option, Result, Ok, Err, OnOk, OnErr, IfErr, ap}
-use Rattle.std.proofs.Common.{append-nil, subst, sym}
+use Rattle.std.proofs.Common.{◌≡◌, ◌++◌, ◌∙◌, ℕ, List, Option, Result, Ok, Err, OnOk, OnErr, IfErr, ap}
+use Rattle.std.proofs.Common.{append-nil, inr, subst, sym}
 use Rattle.std.specs.Io.KnownBytes.{Appends}
 use Rattle.worm_report.specs.Writing.{Writes}
 use Rattle.worm_report.specs.declared.summary.ReportFault.{ReportFault}
+use Rattle.worm_view.specs.declared.form.Form.{Form}
 use Rattle.worm_view.specs.declared.fault.ViewFault.{ViewFault}
 use Rattle.worm_view.specs.declared.fault.ViewFault.TheVariants.{Network, Report, ReadNetwork, ReadReport, NoMemory}
 use Rattle.worm_view.specs.declared.fault.ViewFault.TheVariants.{Write}
@@ -25,44 +26,45 @@ gave_part bytes drawing same w =
 
 -- ---- texts
 
-pub drew : (as_map : Bool) (network report drawing : List ℕ) (out : Stream) (result : Result (Unit {0}) ViewFault)
-    → IsDrawing as_map network report drawing → OnOk result (Appends out.old out.new drawing)
-    → OnOk result (DrawsTexts as_map network report out)
-drew as_map network report drawing out (Ok done) of_texts written =
+pub drew : (form : Form) (network report drawing : List ℕ) (out : Stream) (result : Result (Unit {0}) ViewFault)
+    → IsDrawing form network report drawing → OnOk result (Appends out.old out.new drawing)
+    → OnOk result (DrawsTexts form network report out)
+drew form network report drawing out (Ok done) of_texts written =
     record { drawing = drawing; of_texts = of_texts; written = written }
-drew as_map network report drawing out (Err fault) of_texts written = tt
+drew form network report drawing out (Err fault) of_texts written = tt
 
-pub failed : (as_map : Bool) (network report drawing : List ℕ) (out : Stream) (result : Result (Unit {0}) ViewFault)
-    → IsDrawing as_map network report drawing → IfErr result (λ fault. fault ≡ Write)
-    → OnErr result (WritesPart out drawing) → IfErr result (FailsTexts as_map network report out)
-failed as_map network report drawing out (Ok done) of_texts same written = tt
-failed as_map network report drawing out (Err fault) of_texts same written =
-    let begun : BeginsToDraw as_map network report out =
+pub failed : (form : Form) (network report drawing : List ℕ) (out : Stream) (result : Result (Unit {0}) ViewFault)
+    → IsDrawing form network report drawing → IfErr result (λ fault. fault ≡ Write)
+    → OnErr result (WritesPart out drawing) → IfErr result (FailsTexts form network report out)
+failed form network report drawing out (Ok done) of_texts same written = tt
+failed form network report drawing out (Err fault) of_texts same written =
+    let begun : BeginsToDraw form network report out =
     record { drawing = drawing; of_texts = of_texts; written = written } in
-    subst (FailsTexts as_map network report out) (sym same) begun
+    subst (FailsTexts form network report out) (sym same) begun
 
 -- ---- readers
 
 -- what a fault tells of two texts, it tells of the readers that gave them
-told : (as_map : Bool) (first second out : Stream) (network report : List ℕ) (fault : ViewFault)
-    → GaveBoth first second network report → FailsTexts as_map network report out fault
-    → FailsToDraw as_map first second out fault
-told as_map first second out network report (Network t) gave h =
+told : (form : Form) (first second out : Stream) (network report : List ℕ) (fault : ViewFault)
+    → GaveBoth first second network report → FailsTexts form network report out fault
+    → FailsToDraw form first second out fault
+told form first second out network report (Network t) gave h =
     record { network = network; report = report; gave = gave; fails = h }
-told as_map first second out network report (Report t) gave h =
+told form first second out network report (Report t) gave h =
     record { network = network; report = report; gave = gave; fails = h }
-told as_map first second out network report ReadNetwork gave h = absurd h
-told as_map first second out network report ReadReport gave h = absurd h
-told as_map first second out network report NoMemory gave h = h
-told as_map first second out network report Write gave h =
+told form first second out network report ReadNetwork gave h = absurd h
+told form first second out network report ReadReport gave h = absurd h
+told form first second out network report NoMemory gave h =
+    inr (record { network = network; report = report; gave = gave; fails = h })
+told form first second out network report Write gave h =
     record { network = network; report = report; gave = gave; fails = h }
 
-pub failed_reading : (as_map : Bool) (first second out : Stream) (network report read_network read_report : List ℕ)
+pub failed_reading : (form : Form) (first second out : Stream) (network report read_network read_report : List ℕ)
     (result : Result (Unit {0}) ViewFault) → GaveBoth first second network report
-    → read_network ≡ network → read_report ≡ report → IfErr result (FailsTexts as_map read_network read_report out)
-    → IfErr result (FailsToDraw as_map first second out)
-failed_reading as_map first second out network report read_network read_report (Ok done) gave n r h = tt
-failed_reading as_map first second out network report read_network read_report (Err fault) gave n r h =
-    told as_map first second out network report fault gave
-    (subst (λ (text : List ℕ). FailsTexts as_map network text out fault) r
-    (subst (λ (text : List ℕ). FailsTexts as_map text read_report out fault) n h))
+    → read_network ≡ network → read_report ≡ report → IfErr result (FailsTexts form read_network read_report out)
+    → IfErr result (FailsToDraw form first second out)
+failed_reading form first second out network report read_network read_report (Ok done) gave n r h = tt
+failed_reading form first second out network report read_network read_report (Err fault) gave n r h =
+    told form first second out network report fault gave
+    (subst (λ (text : List ℕ). FailsTexts form network text out fault) r
+    (subst (λ (text : List ℕ). FailsTexts form text read_report out fault) n h))

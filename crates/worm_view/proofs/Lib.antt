@@ -1,3 +1,4 @@
 mod Drawing
 mod Named
+mod Owned
 pub mod Statuses

@@ -18,42 +18,49 @@ use Rattle.clap.proofs.CallerLemmas.{required_has_value}
 use Rattle.clap.proofs.FaultLemmas.{free_args}
 use Rattle.clap.proofs.SimpleLemmas.{all_simple, ready_simple, simple_groups}
 use Rattle.clap.proofs.WalkLemmas.{first_value-rows}
-use Rattle.worm_view.specs.Commands.{command, network_word, text_word}
+use Rattle.worm_view.specs.Commands.{command, network_word, text_word, waits_word}
 
 differs : (a b : Text) → bytes_eq a b ≡ false → a ≡ b → ⊥
 differs a b unequal is = true≢false (sym ((bytes_eq-Decides a b).1 is) ∙ unequal)
 
--- two arguments, each by its rule
-record AreTwo (xs : List Arg) (r s : Rule) : Type 0 where
+-- three arguments, each by its rule
+record AreThree (xs : List Arg) (r s t : Rule) : Type 0 where
   first : Arg
   second : Arg
-  list : xs ≡ first ∷ second ∷ []
+  third : Arg
+  list : xs ≡ first ∷ second ∷ third ∷ []
   first_rule : rule_of first ≡ r
   second_rule : rule_of second ≡ s
+  third_rule : rule_of third ≡ t
 
-are_two : (xs : List Arg) (r s : Rule) → map rule_of xs ≡ r ∷ s ∷ [] → AreTwo xs r s
-are_two [] r s is = absurd (cc)
-are_two (x ∷ []) r s is = absurd (cc)
-are_two (x ∷ y ∷ []) r s is = record {
+are_three : (xs : List Arg) (r s t : Rule) → map rule_of xs ≡ r ∷ s ∷ t ∷ [] → AreThree xs r s t
+are_three [] r s t is = absurd (cc)
+are_three (x ∷ []) r s t is = absurd (cc)
+are_three (x ∷ y ∷ []) r s t is = absurd (cc)
+are_three (x ∷ y ∷ z ∷ []) r s t is = record {
   first = x;
   second = y;
+  third = z;
   list = refl;
   first_rule = ap (λ (rs : List Rule). slice_index_or rs 0 r) is;
   second_rule = ap (λ (rs : List Rule). slice_index_or rs 1 s) is;
+  third_rule = ap (λ (rs : List Rule). slice_index_or rs 2 t) is;
 }
-are_two (x ∷ y ∷ z ∷ zs) r s is = absurd (cc)
+are_three (x ∷ y ∷ z ∷ w ∷ ws) r s t is = absurd (cc)
 
--- the id of the first is not that of the second
-first_alone : (x y d : Arg) → bytes_eq y.id.now x.id.now ≡ false → (j : ℕ) (e : Arg) → j < length (x ∷ y ∷ [])
-    → bytes_eq (slice_index_or (x ∷ y ∷ []) j e).id.now (slice_index_or (x ∷ y ∷ []) 0 d).id.now ≡ true → j ≡ 0
-first_alone x y d apart zero e lt same = refl
-first_alone x y d apart (suc zero) e lt same = absurd (true≢false (sym same ∙ apart))
-first_alone x y d apart (suc (suc j)) e lt same = absurd (omega arith)
+-- the id of the first is that of no other
+first_alone : (x y z d : Arg) → bytes_eq y.id.now x.id.now ≡ false → bytes_eq z.id.now x.id.now ≡ false → (j : ℕ)
+    (e : Arg) → j < length (x ∷ y ∷ z ∷ []) → bytes_eq (slice_index_or (x ∷ y ∷ z ∷ []) j e).id.now
+    (slice_index_or (x ∷ y ∷ z ∷ []) 0 d).id.now ≡ true → j ≡ 0
+first_alone x y z d second third zero e lt same = refl
+first_alone x y z d second third (suc zero) e lt same = absurd (true≢false (sym same ∙ second))
+first_alone x y z d second third (suc (suc zero)) e lt same = absurd (true≢false (sym same ∙ third))
+first_alone x y z d second third (suc (suc (suc j))) e lt same = absurd (omega arith)
 
 module _ (old : Command) (m : ArgMatches) (p : IsParsedFrom old m) (is : app_of old ≡ command) where
-  args : AreTwo (args_of old) network_word text_word
+  args : AreThree (args_of old) network_word text_word waits_word
   unfolding command
-  args = are_two (args_of old) network_word text_word (ap (λ (a : App). a.top.rules) is)
+  args = are_three (args_of old) network_word text_word waits_word (ap (λ (a : App). a.top.rules) is)
 
   simple : IsSimple old
   unfolding command
@@ -88,16 +95,19 @@ module _ (old : Command) (m : ArgMatches) (p : IsParsedFrom old m) (is : app_of 
   rule = ap (λ (xs : List Arg). rule_of (slice_index_or xs 0 args.first)) args.list ∙ args.first_rule
 
   some : 0 < length (args_of old)
-  some = let long : length (args_of old) ≡ 2 = ap length args.list in omega arith
+  some = let long : length (args_of old) ≡ 3 = ap length args.list in omega arith
 
   unique : (j : ℕ) (e : Arg) → j < length (args_of old)
       → bytes_eq (slice_index_or (args_of old) j e).id.now here.id.now ≡ true → j ≡ 0
   unique =
-      let apart : bytes_eq args.second.id.now args.first.id.now ≡ false =
-      ap₂ bytes_eq (ap (λ (r : Rule). r.id) args.second_rule) (ap (λ (r : Rule). r.id) args.first_rule) in
+      let first = ap (λ (r : Rule). r.id) args.first_rule in
+      let second : bytes_eq args.second.id.now args.first.id.now ≡ false =
+      ap₂ bytes_eq (ap (λ (r : Rule). r.id) args.second_rule) first in
+      let third : bytes_eq args.third.id.now args.first.id.now ≡ false =
+      ap₂ bytes_eq (ap (λ (r : Rule). r.id) args.third_rule) first in
       subst (λ (xs : List Arg). (j : ℕ) (e : Arg) → j < length xs
       → bytes_eq (slice_index_or xs j e).id.now (slice_index_or xs 0 args.first).id.now ≡ true → j ≡ 0)
-      (sym args.list) (first_alone args.first args.second args.first apart)
+      (sym args.list) (first_alone args.first args.second args.third args.first second third)
 
   pub named : IsSome (first_of (codes "NETWORK") (rows_of (found_of m)))
   named =

@@ -1,5 +1,5 @@
 -- However the program ends, its status is one of those that it has.
-use Rattle.std.proofs.Common.{◌≡◌, ◌≤◌, ◌⊎◌, ℕ, Result, Ok, Err, inl, inr, refl, arith}
+use Rattle.std.proofs.Common.{◌≡◌, ◌≤◌, ℕ, Result, Ok, Err, inl, inr, refl, arith}
 use Rattle.worm_view.specs.declared.fault.ViewFault.{ViewFault}
 use Rattle.worm_view.specs.declared.fault.ViewFault.TheVariants as f
 use Rattle.worm_view.specs.declared.words.WordsFault.{WordsFault}
@@ -24,5 +24,6 @@ of_ended s (Err fault) is = rw is (of_fault fault)
 pub of_words : (s : ℕ) (fault : WordsFault) → s ≡ words_status fault → IsStatus s
 of_words s (w.Asked answer) is = inl is
 of_words s (w.Words error) is = rw is (between 2 (omega arith) (omega arith))
+of_words s w.Both is = rw is (between 2 (omega arith) (omega arith))
 of_words s w.NotText is = rw is (between 2 (omega arith) (omega arith))
 of_words s w.NoMemory is = rw is (between 6 (omega arith) (omega arith))

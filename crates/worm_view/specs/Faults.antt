@@ -41,6 +41,7 @@ IsStatus status = (status ≡ 0) ⊎ (((2 ≤ status) × (status ≤ 6)) ⊎ (st
 abbrev pub words_status : WordsFault → ℕ
 words_status (w.Asked answer) = 0
 words_status (w.Words error) = 2
+words_status w.Both = 2
 words_status w.NotText = 2
 words_status w.NoMemory = 6
 
@@ -57,12 +58,13 @@ abbrev pub list_fault : IoErrorKind → WordsFault
 list_fault io.OutOfMemory = w.NoMemory
 list_fault _ = w.NotText
 
--- a list of texts is refused by what the parser says of it, or for want of memory, which the parser does not say; help
--- and the version are said where they were asked for, and nowhere else
+-- a list of texts is refused by what the parser says of it, for two forms at once, or for want of memory, which the
+-- parser does not say; help and the version are said where they were asked for, and nowhere else
 abbrev pub IsNoCommand : WordsFault → Type 0
 IsNoCommand (w.Asked answer) = (kind_of answer ≡ clap.DisplayHelp) ⊎ (kind_of answer ≡ clap.DisplayVersion)
 IsNoCommand (w.Words error) =
     (kind_of error ≢ clap.OutOfMemory) × (kind_of error ≢ clap.DisplayHelp) × (kind_of error ≢ clap.DisplayVersion)
+IsNoCommand w.Both = Unit {0}
 IsNoCommand w.NotText = ⊥
 IsNoCommand w.NoMemory = Unit {0}
 
@@ -70,5 +72,6 @@ IsNoCommand w.NoMemory = Unit {0}
 abbrev pub IsNoList : WordsFault → Type 0
 IsNoList (w.Asked answer) = ⊥
 IsNoList (w.Words error) = ⊥
+IsNoList w.Both = ⊥
 IsNoList w.NotText = Unit {0}
 IsNoList w.NoMemory = Unit {0}

@@ -1,14 +1,17 @@
 -- What the program makes of two texts: a drawing of the report, or the fault that comes first.
-use Rattle.std.specs.Prelude.{ℕ, ◌≡◌, Bool, false, List, ◌++◌, Option}
+use Rattle.std.specs.Prelude.{ℕ, ◌≡◌, ◌⊎◌, List, ◌++◌, Option}
 use Rattle.std.specs.Io.KnownBytes.{Keeps, Appends}
 use Rattle.worm_text.specs.Network.{Network}
 use Rattle.worm_rows.specs.declared.shape.Shape.{Shape}
 use Rattle.worm_rows.specs.declared.rows.Row.{Row}
+use Rattle.worm_view.specs.declared.form.Form.{Form}
+use Rattle.worm_view.specs.declared.form.Form.TheVariants.{Picture, Map, Waits}
 use Rattle.worm_view.specs.declared.fault.ViewFault.{ViewFault}
 use Rattle.worm_view.specs.declared.fault.ViewFault.TheVariants as f
 use Rattle.worm_picture.specs.Picture.{PicturesRows}
-use Rattle.worm_text.specs.Whole.{IsWhole}
-use Rattle.worm_view.specs.Views.{IsAccepted, IsRefused}
+use Rattle.worm_waits.specs.Text.{TellsWaits}
+use Rattle.worm_text.specs.Whole.{GaveFront, GaveWhole, IsWhole}
+use Rattle.worm_view.specs.Views.{IsAccepted, IsNetworkText, IsRefused}
 
 -- what a reader had left and has left, or what a writer held and holds
 pub record Stream : Type 0 where
@@ -21,6 +24,14 @@ stream old new = record { old = old; new = new }
 -- a reader gave this text, of 64 MiB at most, to its end
 abbrev pub GaveText : Stream → List ℕ → Type 0
 GaveText reader text = IsWhole 67108864 reader.old reader.new text
+
+-- a reader gave some text so
+abbrev pub GaveSome : Stream → Type 0
+GaveSome reader = GaveWhole 67108864 reader.old reader.new
+
+-- a reader gave some first part of what it had
+abbrev pub GavePart : Stream → Type 0
+GavePart reader = GaveFront reader.old reader.new
 
 -- both readers gave their texts to the end
 pub record GaveBoth (first second : Stream) (network report : List ℕ) : Type 0 where
@@ -36,10 +47,16 @@ pub record Accepts (network report : List ℕ) : Type 0 where
   pub rows : List Row
   pub accepted : IsAccepted network report said shape rows
 
--- both texts are accepted, and this is drawn of them: a map where one is asked for, and else a picture of the report
-pub record IsDrawing (as_map : Bool) (network report drawing : List ℕ) : Type 0 where
+-- what a drawing of a report shows: a picture its flits, and the waits who waits for whom; of a map nothing is told
+abbrev pub IsDrawn : Form → Network → Shape → List Row → List ℕ → Type 0
+IsDrawn Picture n s rows drawing = PicturesRows s rows drawing
+IsDrawn Map n s rows drawing = Unit {0}
+IsDrawn Waits n s rows drawing = TellsWaits s n.channels n.depth rows drawing
+
+-- both texts are accepted, and this is drawn of them
+pub record IsDrawing (form : Form) (network report drawing : List ℕ) : Type 0 where
   pub accepts : Accepts network report
-  pub pictured : as_map ≡ false → PicturesRows accepts.shape accepts.rows drawing
+  pub drawn : IsDrawn form accepts.said accepts.shape accepts.rows drawing
 
 -- a first part of these bytes was written
 pub record WritesPart (out : Stream) (bytes : List ℕ) : Type 0 where
@@ -49,34 +66,34 @@ pub record WritesPart (out : Stream) (bytes : List ℕ) : Type 0 where
   pub written : Appends out.old out.new front
 
 -- a drawing of both texts was written, all of it
-pub record DrawsTexts (as_map : Bool) (network report : List ℕ) (out : Stream) : Type 0 where
+pub record DrawsTexts (form : Form) (network report : List ℕ) (out : Stream) : Type 0 where
   pub drawing : List ℕ
-  pub of_texts : IsDrawing as_map network report drawing
+  pub of_texts : IsDrawing form network report drawing
   pub written : Appends out.old out.new drawing
 
 -- a first part of a drawing of both texts was written
-pub record BeginsToDraw (as_map : Bool) (network report : List ℕ) (out : Stream) : Type 0 where
+pub record BeginsToDraw (form : Form) (network report : List ℕ) (out : Stream) : Type 0 where
   pub drawing : List ℕ
-  pub of_texts : IsDrawing as_map network report drawing
+  pub of_texts : IsDrawing form network report drawing
   pub written : WritesPart out drawing
 
 -- what a fault tells of two texts at hand: nothing was written, but where the writer failed
-abbrev pub FailsTexts : Bool → List ℕ → List ℕ → Stream → ViewFault → Type 0
-FailsTexts as_map network report out (f.Network t) = IsRefused network report (f.Network t) × Keeps out.old out.new
-FailsTexts as_map network report out (f.Report t) = IsRefused network report (f.Report t) × Keeps out.old out.new
-FailsTexts as_map network report out f.ReadNetwork = ⊥
-FailsTexts as_map network report out f.ReadReport = ⊥
-FailsTexts as_map network report out f.NoMemory = Keeps out.old out.new
-FailsTexts as_map network report out f.Write = BeginsToDraw as_map network report out
+abbrev pub FailsTexts : Form → List ℕ → List ℕ → Stream → ViewFault → Type 0
+FailsTexts form network report out (f.Network t) = IsRefused network report (f.Network t) × Keeps out.old out.new
+FailsTexts form network report out (f.Report t) = IsRefused network report (f.Report t) × Keeps out.old out.new
+FailsTexts form network report out f.ReadNetwork = ⊥
+FailsTexts form network report out f.ReadReport = ⊥
+FailsTexts form network report out f.NoMemory = IsNetworkText network × Keeps out.old out.new
+FailsTexts form network report out f.Write = BeginsToDraw form network report out
 
 -- Readers
 
 -- both readers gave their texts, and a drawing of the report was written
-pub record Draws (as_map : Bool) (first second out : Stream) : Type 0 where
+pub record Draws (form : Form) (first second out : Stream) : Type 0 where
   pub network : List ℕ
   pub report : List ℕ
   pub gave : GaveBoth first second network report
-  pub draws : DrawsTexts as_map network report out
+  pub draws : DrawsTexts form network report out
 
 -- both readers gave their texts, of which this holds
 pub record FailsBoth (Holds : List ℕ → List ℕ → Type 0) (first second : Stream) : Type 0 where
@@ -85,24 +102,26 @@ pub record FailsBoth (Holds : List ℕ → List ℕ → Type 0) (first second : 
   pub gave : GaveBoth first second network report
   pub fails : Holds network report
 
--- what a fault tells where two readers give the texts; the report is not read before the network is
-abbrev pub FailsToDraw : Bool → Stream → Stream → Stream → ViewFault → Type 0
-FailsToDraw as_map first second out (f.Network t) =
-    FailsBoth (λ network report. FailsTexts as_map network report out (f.Network t)) first second
-FailsToDraw as_map first second out (f.Report t) =
-    FailsBoth (λ network report. FailsTexts as_map network report out (f.Report t)) first second
-FailsToDraw as_map first second out f.ReadNetwork = Keeps second.old second.new × Keeps out.old out.new
-FailsToDraw as_map first second out f.ReadReport =
-    ((network : List ℕ) × GaveText first network) × Keeps out.old out.new
-FailsToDraw as_map first second out f.NoMemory = Keeps out.old out.new
-FailsToDraw as_map first second out f.Write =
-    FailsBoth (λ network report. FailsTexts as_map network report out f.Write) first second
-
--- what a fault of reading tells
+-- What a fault of reading tells: the report is not read before the network was, and where memory ran out what was read
+-- was read to its end, so that no text past the limit is told so.
 abbrev pub ReadsNot : Stream → Stream → ViewFault → Type 0
-ReadsNot first second f.ReadNetwork = Keeps second.old second.new
-ReadsNot first second f.ReadReport = (network : List ℕ) × GaveText first network
-ReadsNot first second f.NoMemory = Unit {0}
+ReadsNot first second f.ReadNetwork = GavePart first × Keeps second.old second.new
+ReadsNot first second f.ReadReport = GaveSome first × GavePart second
+ReadsNot first second f.NoMemory = GaveSome first × (Keeps second.old second.new ⊎ GaveSome second)
 ReadsNot first second (f.Network t) = ⊥
 ReadsNot first second (f.Report t) = ⊥
 ReadsNot first second f.Write = ⊥
+
+-- what a fault tells where two readers give the texts
+abbrev pub FailsToDraw : Form → Stream → Stream → Stream → ViewFault → Type 0
+FailsToDraw form first second out (f.Network t) =
+    FailsBoth (λ network report. FailsTexts form network report out (f.Network t)) first second
+FailsToDraw form first second out (f.Report t) =
+    FailsBoth (λ network report. FailsTexts form network report out (f.Report t)) first second
+FailsToDraw form first second out f.ReadNetwork = ReadsNot first second f.ReadNetwork × Keeps out.old out.new
+FailsToDraw form first second out f.ReadReport = ReadsNot first second f.ReadReport × Keeps out.old out.new
+FailsToDraw form first second out f.NoMemory =
+    (ReadsNot first second f.NoMemory × Keeps out.old out.new)
+    ⊎ FailsBoth (λ network report. FailsTexts form network report out f.NoMemory) first second
+FailsToDraw form first second out f.Write =
+    FailsBoth (λ network report. FailsTexts form network report out f.Write) first second

@@ -26,10 +26,15 @@ pub record IsAccepted (network report : List ℕ) (n : Network) (s : Shape) (row
   pub rules : IsReport s rows
   pub written : report ≡ rows_text rows
 
--- The fault of the network text, and else that of the report, held against the shape of the network.
+-- a network text is accepted
+abbrev pub IsNetworkText : List ℕ → Type 0
+IsNetworkText network = (n : Network) × (format : Format) × Keeps format n × (network ≡ text format n)
+
+-- The fault of the network text, and else that of the report, held against the shape of the network; a refused network
+-- text is always told as such.
 abbrev pub IsRefused : List ℕ → List ℕ → ViewFault → Type 0
 IsRefused network report (f.Network t) = network_of network ≡ Err t
 IsRefused network report (f.Report t) =
     (n : Network) × (s : Shape) × (network_of network ≡ Ok n) × IsShapeOf n s × (report_of s report ≡ Err t)
-IsRefused network report f.NoMemory = Unit {0}
+IsRefused network report f.NoMemory = IsNetworkText network
 IsRefused network report _ = ⊥

@@ -20,7 +20,7 @@ pub enum ViewFault {
     ReadReport,
     /// There was no memory.
     NoMemory,
-    /// The writer failed or took nothing; a first part of the picture, or of the map, has gone out.
+    /// The writer failed or took nothing; a first part of what was drawn has gone out.
     Write,
 }
 

@@ -1,11 +1,11 @@
 //! What the program `wormview` does: it reads the words of the command line, a network text from the file that they
 //! name and a report of `wormrun` from the standard input, and gives the standard output a picture of the report.
 //!
-//! The picture is SVG; with `--text` it is a map for a terminal. A fault is one line on the standard error and a
-//! status. Everything goes through readers, a writer and a runtime that the caller brings, so a contract can name the
-//! bytes that they give and take: what the words ask for is proved (`words`), what each fault tells (`program`), and
-//! the line and the status it ends in (`fault`). That the report is read as what it says is proved in `worm_rows`, what
-//! the picture shows in `worm_picture`.
+//! The picture is SVG; with `--text` it is a map for a terminal, and with `--waits` who waits for whom. A fault is one
+//! line on the standard error and a status. Everything goes through readers, a writer and a runtime that the caller
+//! brings, so a contract can name the bytes that they give and take: what the words ask for is proved (`words`), what
+//! each fault tells (`program`), and the line and the status it ends in (`fault`). That the report is read as what it
+//! says is proved in `worm_rows`, what the picture shows in `worm_picture`, and who waits in `worm_waits`.
 //!
 //! The program is a crate of its own, and no more than its `main`: its check loads the code of all that it stands on,
 //! where this one reads only what the libraries below say of themselves.
@@ -16,10 +16,12 @@ ghost use Rattle.std.specs.Process.{exit_status};
 ghost use Rattle.worm_view.specs.Faults.{ended_status, words_status, IsStatus};
 
 mod fault;
+mod form;
 mod program;
 mod words;
 
 pub use fault::ViewFault;
+pub use form::Form;
 pub use program::{Accepted, accept, run_view};
 use std::alloc::Global;
 use std::process::ExitCode;
@@ -37,7 +39,7 @@ fn run_file<R: Files + Input + Print + AllocGlobal>(
     };
     let mut report = rt.reader();
     let mut out = io::writer(rt);
-    run_view(rt.alloc(), &mut network, &mut report, words.text, &mut out)
+    run_view(rt.alloc(), &mut network, &mut report, words.form, &mut out)
 }
 
 /// Says the fault on the standard error, and gives its status.
@@ -60,6 +62,10 @@ fn refuse<R: Print + Eprint>(rt: &R, fault: WordsFault) -> ExitCode
 {
     match fault {
         WordsFault::NoMemory => end(rt, Err(ViewFault::NoMemory)),
+        WordsFault::Both => {
+            let _ = rt.eprintln("wormview: both --text and --waits");
+            ExitCode::from(2)
+        }
         WordsFault::NotText => {
             let _ = rt.eprintln("wormview: a word is not UTF-8");
             ExitCode::from(2)

@@ -1,21 +1,25 @@
 //! The program over readers and a writer.
 
-ghost use Rattle.std.specs.Prelude.{◌≡◌, IfOk, IfErr, OnOk, OnErr};
+ghost use Rattle.std.specs.Prelude.{◌≡◌, IfOk, IfErr, OnOk, OnErr, string_bytes};
 ghost use Rattle.std.specs.Io.KnownBytes.{Appends};
+ghost use Rattle.worm_flit.specs.Channels.{AreChannels};
 ghost use Rattle.worm_text.specs.Network.{view};
 ghost use Rattle.worm_view.specs.Views.{IsAccepted, IsRefused};
-ghost use Rattle.worm_view.specs.Programs.{Draws, DrawsTexts, FailsTexts, FailsToDraw, GaveBoth, ReadsNot};
+ghost use Rattle.worm_view.specs.Programs.{Draws, DrawsTexts, FailsTexts, FailsToDraw, GaveBoth, IsDrawn, ReadsNot};
 ghost use Rattle.worm_view.specs.Programs.{WritesPart, stream};
 ghost use Rattle.worm_view.specs.declared.fault.ViewFault.TheVariants.{Write};
 
 use crate::fault::ViewFault;
-use std::alloc::Global;
+use crate::form::Form;
+use std::alloc::{AllocError, Global};
 use std::io::{Read, Write};
 use worm_core::Config;
+use worm_flit::ClassChannels;
 use worm_picture::draw;
 use worm_report::write_bytes;
 use worm_rows::{Row, Shape, read_report};
 use worm_text::{ReadFault, Why, read_network, read_text};
+use worm_waits::who_waits;
 
 /// The most bytes that a text may have: 64 MiB.
 pub const MOST_BYTES: usize = 67_108_864;
@@ -96,50 +100,81 @@ fn write_drawing<W: Write>(out: &mut W, drawing: &str) -> Result<(), ViewFault>
     }
 }
 
-/// Judges two texts, and gives the writer the picture of the report, or its map.
+/// Who waits for whom in the network of a report.
+fn waits_of(alloc: Global, accepted: &Accepted) -> Result<String, AllocError>
+    requires { AreChannels accepted.now.config.channels.items }
+    ensures { IfOk result (λ drawing. IsDrawn Form.Waits (view accepted.now.config) accepted.now.shape
+        accepted.now.rows.items (string_bytes drawing)) }
+{
+    let channels = ClassChannels::new(accepted.config.channels.as_slice());
+    let depth = accepted.config.depth;
+    who_waits(
+        alloc,
+        &accepted.shape,
+        &channels,
+        depth,
+        accepted.rows.as_slice(),
+    )
+}
+
+/// What two accepted texts say, in a form.
+fn drawn(alloc: Global, accepted: &Accepted, form: Form) -> Result<String, AllocError>
+    requires { AreChannels accepted.now.config.channels.items }
+    ensures { IfOk result (λ drawing. IsDrawn form (view accepted.now.config) accepted.now.shape
+        accepted.now.rows.items (string_bytes drawing)) }
+{
+    let depth = accepted.config.depth;
+    let rows = accepted.rows.as_slice();
+    match form {
+        Form::Picture => draw(alloc, &accepted.shape, depth, rows, false),
+        Form::Map => draw(alloc, &accepted.shape, depth, rows, true),
+        Form::Waits => waits_of(alloc, accepted),
+    }
+}
+
+/// Judges two texts, and gives the writer what is drawn of the report.
 fn draw_texts<W: Write>(
     alloc: Global,
     network: &[u8],
     report: &[u8],
-    text: bool,
+    form: Form,
     out: &mut W,
 ) -> Result<(), ViewFault>
-    ensures ok { OnOk result (DrawsTexts text network.now report.now
+    ensures ok { OnOk result (DrawsTexts form network.now report.now
         (stream (W.contents out.old) (W.contents out.new))) }
-    ensures err { IfErr result (FailsTexts text network.now report.now
+    ensures err { IfErr result (FailsTexts form network.now report.now
         (stream (W.contents out.old) (W.contents out.new))) }
 {
     let accepted = accept(alloc, network, report)?;
-    let rows = accepted.rows.as_slice();
-    let Ok(drawing) = draw(alloc, &accepted.shape, accepted.config.depth, rows, text) else {
+    let Ok(drawing) = drawn(alloc, &accepted, form) else {
         return Err(ViewFault::NoMemory);
     };
     write_drawing(out, drawing.as_str())
 }
 
-/// Reads the network and the report to their ends, and gives the writer the picture, or the map.
+/// Reads the network and the report to their ends, and gives the writer the picture, the map, or who waits for whom.
 ///
 /// `ReadNetwork` and `ReadReport` where a reader failed or gave too much; `Network` and `Report` where a text is
 /// refused; `NoMemory` where memory ran out; with these nothing was written. `Write` where the writer failed or took
-/// nothing: a first part of the picture, or of the map, has then gone out.
+/// nothing: a first part of it has then gone out.
 pub fn run_view<N: Read, R: Read, W: Write>(
     alloc: Global,
     network: &mut N,
     report: &mut R,
-    text: bool,
+    form: Form,
     out: &mut W,
 ) -> Result<(), ViewFault>
     ensures ok { OnOk result
-        (Draws text (stream (N.remaining network.old) (N.remaining network.new))
+        (Draws form (stream (N.remaining network.old) (N.remaining network.new))
         (stream (R.remaining report.old) (R.remaining report.new))
         (stream (W.contents out.old) (W.contents out.new))) }
     ensures err { IfErr result
-        (FailsToDraw text (stream (N.remaining network.old) (N.remaining network.new))
+        (FailsToDraw form (stream (N.remaining network.old) (N.remaining network.new))
         (stream (R.remaining report.old) (R.remaining report.new))
         (stream (W.contents out.old) (W.contents out.new))) }
 {
     let texts = read_both(alloc, network, report)?;
     let network = texts.network.as_slice();
     let report = texts.report.as_slice();
-    draw_texts(alloc, network, report, text, out)
+    draw_texts(alloc, network, report, form, out)
 }

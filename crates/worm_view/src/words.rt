@@ -3,10 +3,12 @@
 ghost use Rattle.clap.specs.Words.{app_of, fault_of, first_of, found_of, kind_of, matches_of, rows_of, rule_of, takes};
 ghost use Rattle.clap.specs.Walk.{texts};
 ghost use Rattle.std.specs.IoError.{error_kind};
-ghost use Rattle.std.specs.Prelude.{◌≡◌, [], codes, true, false, IfOk, IfErr, IsSome, OnOk};
-ghost use Rattle.worm_view.specs.Commands.{command, described, network_word, text_word, IsRefused, Say};
+ghost use Rattle.std.specs.Prelude.{◌≡◌, ◌⊎◌, [], codes, true, false, IfOk, IfErr, IsSome, OnOk};
+ghost use Rattle.worm_view.specs.Commands.{command, described, is_set, network_word, text_word, waits_word};
+ghost use Rattle.worm_view.specs.Commands.{AskBoth, IsRefused, Say};
 ghost use Rattle.worm_view.specs.Faults.{list_fault, parser_fault, IsNoCommand, IsNoList};
 
+use crate::form::{Form, form_of};
 use clap::error::ErrorKind;
 use clap::{Arg, ArgAction, ArgMatches, Command, Error};
 use std::alloc::{AllocError, Global};
@@ -19,8 +21,8 @@ use worm_words::Named;
 pub struct Words<'a> {
     /// The file of the network text.
     pub network: &'a str,
-    /// Whether a map for a terminal is wanted, in place of a picture.
-    pub text: bool,
+    /// What is wanted of the report.
+    pub form: Form,
 }
 
 /// Why the words were not read.
@@ -30,6 +32,8 @@ pub enum WordsFault {
     Asked(Error),
     /// They are not those that the program knows.
     Words(Error),
+    /// They ask for a map and for who waits for whom.
+    Both,
     /// One of them is not UTF-8.
     NotText,
     /// There was no memory.
@@ -101,6 +105,17 @@ fn text_word<'a>(alloc: Global) -> Arg<'a>
         .action(ArgAction::SetTrue)
 }
 
+/// The word that asks for who waits for whom.
+fn waits_word<'a>(alloc: Global) -> Arg<'a>
+    ensures rule { rule_of result ≡ waits_word }
+    ensures local { result.global ≡ false }
+{
+    Arg::new(alloc, "waits")
+        .long("waits")
+        .help("print which packets cannot go on, and who waits for whom")
+        .action(ArgAction::SetTrue)
+}
+
 /// The program's name, and what help and the version say of it.
 fn described<'a>(alloc: Global) -> Command<'a>
     ensures { app_of result ≡ described }
@@ -116,31 +131,45 @@ fn command<'a>(alloc: Global) -> Result<Command<'a>, AllocError>
 {
     described(alloc)
         .arg(network_word(alloc))?
-        .arg(text_word(alloc))
+        .arg(text_word(alloc))?
+        .arg(waits_word(alloc))
 }
 
-/// What a parse that succeeded found: the network is named.
-fn words_in<'a>(matches: &ArgMatches<'a>) -> Words<'a>
-    requires { IsSome (first_of (codes "NETWORK") (rows_of (found_of matches.now))) }
-    ensures { Say (rows_of (found_of matches.now)) result }
+/// Whether a flag was given.
+fn is_given<'a>(matches: &ArgMatches<'a>, name: &str) -> bool
+    ensures { result ≡ is_set name.now (rows_of (found_of matches.now)) }
 {
-    Words {
-        network: matches.get_str("NETWORK").unwrap(),
-        // Not `get_flag`, whose clauses leave out a text that is neither `true` nor `false`.
-        text: matches.get_one::<bool>("text").unwrap_or(false),
+    // Not `get_flag`, whose clauses leave out a text that is neither `true` nor `false`.
+    matches.get_one::<bool>(name).unwrap_or(false)
+}
+
+/// What a parse that succeeded found: the network is named. `Both` where two forms are asked for.
+fn words_in<'a>(matches: &ArgMatches<'a>) -> Result<Words<'a>, WordsFault>
+    requires { IsSome (first_of (codes "NETWORK") (rows_of (found_of matches.now))) }
+    ensures said { IfOk result (Say (rows_of (found_of matches.now))) }
+    ensures both { IfErr result (λ fault. (fault ≡ WordsFault.Both) × AskBoth (rows_of (found_of matches.now))) }
+{
+    match form_of(is_given(matches, "text"), is_given(matches, "waits")) {
+        Some(form) => Ok(Words {
+            network: matches.get_str("NETWORK").unwrap(),
+            form,
+        }),
+        None => Err(WordsFault::Both),
     }
 }
 
-/// Reads the words, the program's name first: `NETWORK [--text]`, in any order. `Asked` for `--help` and `--version`,
-/// `Words` where one is unknown or missing, `NoMemory` where there is none for the parser.
+/// Reads the words, the program's name first: `NETWORK [--text | --waits]`, in any order. `Asked` for `--help` and
+/// `--version`, `Words` where one is unknown or missing, `Both` where a map and the waits are asked for, `NoMemory`
+/// where there is none for the parser.
 pub fn read_words<'a>(alloc: Global, words: &'a [&'a str]) -> Result<Words<'a>, WordsFault>
     ensures said { IfOk result (Say (matches_of command (texts words.now))) }
     ensures faultless { OnOk result (fault_of command (texts words.now) ≡ []) }
     ensures err { IfErr result IsNoCommand }
-    ensures refused { IfErr result (IsRefused (fault_of command (texts words.now))) }
-    ensures taken { IfErr result
-        (λ fault. takes command (texts words.now) ≡ true → fault ≡ WordsFault.NoMemory) }
+    ensures refused { IfErr result
+        (IsRefused (fault_of command (texts words.now)) (matches_of command (texts words.now))) }
+    ensures taken { IfErr result (λ fault. takes command (texts words.now) ≡ true → (fault ≡ WordsFault.NoMemory)
+        ⊎ ((fault ≡ WordsFault.Both) × AskBoth (matches_of command (texts words.now)))) }
 {
     let matches = command(alloc)?.try_get_matches_from(words)?;
-    Ok(words_in(&matches))
+    words_in(&matches)
 }

@@ -4,6 +4,7 @@
 //! Each call of what is tested stands in a function of its own that promises nothing, and ends the test where it finds
 //! something else than what is expected: a test that knew all that is promised would take a minute to prove.
 
+mod waits;
 mod whole;
 
 use std::alloc::Global;
@@ -13,7 +14,7 @@ use std::process::Abort;
 use worm_cases::{TWO_NODES, Taking};
 use worm_picture::draw;
 use worm_text::{TextFault, Why};
-use worm_view::{Accepted, ViewFault, accept, run_view};
+use worm_view::{Accepted, Form, ViewFault, accept, run_view};
 
 /// A packet on its way, and one that waits.
 pub const REPORT: &[u8] = b"wormreport 1\n\
@@ -80,11 +81,11 @@ fn is_not_drawn<N: Read + Drop, R: Read + Drop>(
     alloc: Global,
     mut network: N,
     mut report: R,
-    text: bool,
+    form: Form,
     fault: ViewFault,
 ) {
     let mut out = Vec::new(alloc);
-    let ended = run_view(alloc, &mut network, &mut report, text, &mut out);
+    let ended = run_view(alloc, &mut network, &mut report, form, &mut out);
     assert_eq!(rt; ended, Err(fault));
     assert!(rt; out.is_empty());
 }
@@ -93,7 +94,7 @@ fn is_not_drawn<N: Read + Drop, R: Read + Drop>(
 fn write_map<W: Write>(alloc: Global, out: &mut W) -> Result<(), ViewFault> {
     let mut network = TWO_NODES;
     let mut report = REPORT;
-    run_view(alloc, &mut network, &mut report, true, out)
+    run_view(alloc, &mut network, &mut report, Form::Map, out)
 }
 
 #[test]
@@ -124,7 +125,7 @@ fn faults(rt: HostRuntime) {
         alloc,
         nothing,
         REPORT,
-        false,
+        Form::Picture,
         ViewFault::Network(EMPTY),
     );
     is_not_drawn(
@@ -132,7 +133,7 @@ fn faults(rt: HostRuntime) {
         alloc,
         TWO_NODES,
         nothing,
-        false,
+        Form::Waits,
         ViewFault::Report(EMPTY),
     );
 }
@@ -141,8 +142,10 @@ fn faults(rt: HostRuntime) {
 fn readers_that_fail(rt: HostRuntime) {
     let alloc = rt.alloc();
     let (network, report) = (Failing { left: 10 }, Failing { left: 10 });
-    is_not_drawn(&rt, alloc, network, REPORT, false, ViewFault::ReadNetwork);
-    is_not_drawn(&rt, alloc, TWO_NODES, report, true, ViewFault::ReadReport);
+    let unread = ViewFault::ReadNetwork;
+    is_not_drawn(&rt, alloc, network, REPORT, Form::Picture, unread);
+    let unread = ViewFault::ReadReport;
+    is_not_drawn(&rt, alloc, TWO_NODES, report, Form::Map, unread);
 }
 
 /// A writer that fails within the map has taken what it had room for, however much that is.

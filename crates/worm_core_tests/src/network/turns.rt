@@ -70,26 +70,6 @@ fn a_refused_entry_ends_the_turn(rt: HostRuntime) {
     trial.stands(lane(0, 1, 0), &[(0, 0, Place::Source)]);
 }
 
-/// Memory is taken ahead for what a script brings, also where it names nodes or classes that are not there. The network
-/// is as it was.
-#[test]
-fn memory_ahead_changes_nothing(rt: HostRuntime) {
-    let mut trial = Trial::new(rt, &[2], 2, &[1]);
-    let over = lane(0, 1, 0);
-    trial.offer_at(0, over, &[5, 6]);
-    trial.close_at(0, over);
-    trial.offer_at(1, lane(9, 5, 0), &[7]);
-    trial.offer_at(1, lane(0, 1, 4), &[8, 9, 10]);
-    trial.brings(0, over, 2);
-    trial.brings(1, over, 1);
-    trial.brings(3, lane(0, 1, 4), 3);
-    trial.makes_room();
-    trial.has_accepted(0);
-    trial.takes_turn(0);
-    trial.has_words(1, &[5]);
-    trial.stands(over, &[(0, 1, Place::Source), (1, 0, Place::Source)]);
-}
-
 #[test]
 fn a_mark_arrives_last(rt: HostRuntime) {
     let mut trial = Trial::new(rt, &[2], 2, &[1]);

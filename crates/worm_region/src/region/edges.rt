@@ -6,7 +6,6 @@ ghost use Rattle.worm_theory.specs.Steps.{IsThere, Step as Event};
 ghost use Rattle.worm_region.specs.Edges.{ArrivesBy, ComesBackBy, LetsGive, LetsOut};
 ghost use Rattle.worm_region.specs.Moves.{link_into, link_out};
 ghost use Rattle.worm_region.specs.State.{link_at, router_at, shape};
-ghost use Rattle.worm_region.specs.Turns.{OthersMaySend};
 ghost use Rattle.worm_region.specs.Workable.{EndsElsewhere, owned};
 ghost use Rattle.worm_mesh.specs.Address.{neighbour_of, node_count};
 ghost use Rattle.worm_router.specs.Router.{input_at, leaving};
@@ -15,15 +14,6 @@ use super::Region;
 use worm_flit::Flit;
 
 impl Region {
-    /// The node is not known to rest any more. A send marks it so; where that is done before `ready`, a send that
-    /// follows finds it done, and need not read the router anew.
-    #[inline(always)]
-    pub fn wake(&mut self, node: u8)
-        ensures { self.new ≡ self.old }
-    {
-        self.fabric.nodes.wake(node);
-    }
-
     /// By which port the front flit of a channel may leave now, and as which flit.
     #[inline(always)]
     pub fn ready(&self, node: u8, port: u8, vc: u8) -> Option<(u8, Flit)>
@@ -34,13 +24,12 @@ impl Region {
     }
 
     /// The ready flit left the node by the output port `out`, over a link to another worker's node: a Send but for the
-    /// link. What may leave any other channel of the node may leave it still.
+    /// link.
     pub fn sent(&mut self, node: u8, port: u8, vc: u8, out: u8, flit: Flit)
         requires there { IsThere (shape self.old) (Event.Send node port vc) }
         requires ready { leaving (router_at self.old node) port vc ≡ Some (out, flit) }
         requires crosses { EndsElsewhere (shape self.old) (owned self.old) node out }
-        ensures left { LetsOut self.old node port vc self.new }
-        ensures others { OthersMaySend self.old node port vc self.new }
+        ensures { LetsOut self.old node port vc self.new }
     {
         self.fabric.router_mut(node).sent(port, vc);
     }

@@ -6,9 +6,9 @@ ghost use Rattle.worm_region.specs.Workable.{IsWorkable};
 
 use super::Region;
 use crate::fabric::Fabric;
-use crate::fabric::parts::{counts_of, radices_of};
+use crate::fabric::configuration::{counts_of, radices_of};
 use crate::nodes::Nodes;
-use crate::{Config, NetParts, Own};
+use crate::{Config, NetParts, Owner};
 use worm_flit::ClassChannels;
 use worm_mesh::Mesh;
 use worm_wires::Links;
@@ -16,7 +16,7 @@ use worm_wires::Links;
 impl Region {
     /// The region of these lists, of which the worker owns its nodes: each node at its own number, others in the
     /// places of those that are not owned, each link with its room. It takes no memory.
-    pub fn from_parts(parts: NetParts, own: Own) -> Region
+    pub fn from_parts(parts: NetParts, own: Owner) -> Region
         requires { IsWorkable (part_state parts own) }
         ensures { result ≡ part_state parts own }
     {
@@ -79,7 +79,7 @@ impl Region {
     }
 
     /// Which nodes are owned.
-    pub fn own(&self) -> Own
+    pub fn own(&self) -> Owner
         ensures { result ≡ self.now.own }
     {
         self.fabric.own

@@ -72,6 +72,21 @@ fn the_word_text_gives_the_map(rt: HostRuntime) {
     }
 }
 
+/// In the report of two nodes nobody waits: the flit in the buffer may go on.
+#[test]
+fn the_word_waits_gives_who_waits(rt: HostRuntime) {
+    let desk = desk_with(rt.alloc(), &[b"wormview", b"--waits", b"n"], REPORT);
+    let nobody = "Fronts that cannot go on:\n\nChains, the longest first:\n";
+    ends(&rt, &desk, 0, "n\n", nobody, "");
+}
+
+#[test]
+fn a_map_and_the_waits_are_too_much(rt: HostRuntime) {
+    let words: &[&[u8]] = &[b"wormview", b"--text", b"n", b"--waits"];
+    let desk = desk_with(rt.alloc(), words, REPORT);
+    ends(&rt, &desk, 2, "", "", "wormview: both --text and --waits\n");
+}
+
 #[test]
 fn the_version_is_said(rt: HostRuntime) {
     let desk = desk_with(rt.alloc(), &[b"wormview", b"--version"], REPORT);

@@ -1,5 +1,7 @@
-use Rattle.std.proofs.Common.{ap}
+use Rattle.std.proofs.Common.{ap, inl}
+use Rattle.std.proofs.KnownBytes.{Keeps-refl}
 use Rattle.worm_text.specs.Network.{view}
+use Rattle.worm_text.specs.ScriptView.{said_of}
 use Rattle.worm_report.specs.Seen.{seen}
 use Rattle.worm_report.specs.Report.{report}
 use Rattle.worm_program.specs.Programs.{stream}
@@ -7,6 +9,17 @@ use Rattle.worm_core.proofs.NeverRefused.{never_refused}
 use Rattle.worm_program.proofs.Scripts.{accepted_script}
 use Rattle.worm_program.proofs.Reporting.{reported_so}
 use Rattle.worm_program.proofs.program.run_and_report.Goals as goal
+
+-- where there is no memory for the network
+pub returns-in_default : goal.returns-in_default
+returns-in_default g c = inl (
+  record {
+    config = view c.in_ok-accepted.accepted.config;
+    of_network = c.in_ok-accepted.ensures.network;
+    so_far = inl (said_of c.in_ok-accepted.accepted.script, c.in_ok-accepted.ensures.traffic);
+  },
+  Keeps-refl (g.W.Write.contents c.args.out.now),
+)
 
 pub returns : goal.returns
 returns g c =

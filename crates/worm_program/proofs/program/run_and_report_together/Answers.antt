@@ -3,6 +3,7 @@ use Rattle.std.proofs.KnownBytes.{Keeps-refl}
 use Rattle.worm_report.specs.Seen.{seen}
 use Rattle.worm_report.specs.Report.{report}
 use Rattle.worm_text.specs.Network.{view}
+use Rattle.worm_text.specs.ScriptView.{said_of}
 use Rattle.worm_program.specs.Programs.{stream}
 use Rattle.worm_program.specs.Ranges.{plan_of}
 use Rattle.worm_program.specs.Together.{summary_with}
@@ -13,7 +14,11 @@ use Rattle.worm_program.proofs.program.run_and_report_together.Goals as goal
 -- where there is no memory for the network
 pub returns-in_default : goal.returns-in_default
 returns-in_default g c = inl (
-  (view c.in_ok-accepted.accepted.config, c.in_ok-accepted.ensures.network),
+  record {
+    config = view c.in_ok-accepted.accepted.config;
+    of_network = c.in_ok-accepted.ensures.network;
+    so_far = inl (said_of c.in_ok-accepted.accepted.script, c.in_ok-accepted.ensures.traffic);
+  },
   Keeps-refl (g.W.Write.contents c.args.out.now),
 )
 

@@ -1,9 +1,11 @@
 use Rattle.std.proofs.Common.{sym, ap, subst, arith, inr}
 use Rattle.std.specs.Prelude.{codes}
-use Rattle.worm_text.specs.Network.{view, nodes_of}
+use Rattle.worm_mesh.specs.Address.{node_count}
+use Rattle.worm_text.specs.Network.{view}
 use Rattle.worm_text.specs.ScriptView.{said_of}
 use Rattle.worm_text.specs.TrafficFaults.{AnswersOrFull, IsEntryLine}
-use Rattle.worm_text.proofs.Entries.{nodes_some, header_ill, header_well, differs, agrees}
+use Rattle.worm_text.proofs.Entries.{header_ill, header_well, differs, agrees}
+use Rattle.worm_text.proofs.NodeCounts.{nodes_some}
 use Rattle.worm_text.proofs.TrafficPieces.{behind_header}
 use Rattle.worm_text.proofs.traffic.read_script.Goals as goal
 
@@ -19,7 +21,7 @@ read_entries-requires-clause-some c = omega (
   arith,
   nodes_some c.args.config.now.radices.items c.requires.1.mesh.each,
   c.node_count-nodes.ensures,
-  ap nodes_of c.as_slice.ensures.value,
+  ap node_count c.as_slice.ensures.value,
 )
 
 pub returns : goal.returns

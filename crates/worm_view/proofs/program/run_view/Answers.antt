@@ -4,7 +4,7 @@ use Rattle.worm_view.proofs.program.run_view.Goals as goal
 
 pub returns-clause-err : goal.returns-clause-err
 returns-clause-err g c =
-    failed_reading c.args.text
+    failed_reading c.args.form
     (stream (g.N.Read.remaining c.args.network.now) (g.N.Read.remaining c.read_both.new.network))
     (stream (g.R.Read.remaining c.args.report.now) (g.R.Read.remaining c.read_both.new.report))
     (stream (g.W.Write.contents c.args.out.now) (g.W.Write.contents c.draw_texts.new.out))

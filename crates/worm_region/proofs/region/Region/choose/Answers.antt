@@ -8,7 +8,7 @@ use Rattle.worm_swalloc.specs.SwAlloc.{AreGranted}
 use Rattle.worm_region.specs.Moves.{AreReady, IsReady, chosen_router}
 use Rattle.worm_region.specs.State.{NetState, router_at, with_router}
 use Rattle.worm_region.specs.Turns.{Chooses, ReachesAt}
-use Rattle.worm_region.proofs.PassIsGrants.{chosen_in, named_ready, ready_chosen, ready_there, there_still}
+use Rattle.worm_region.proofs.PassIsGrants.{chosen_in, named_ready, ready_there, there_still}
 use Rattle.worm_region.proofs.GrantedSent.{granted_one}
 use Rattle.worm_region.proofs.region.Region.choose.Goals as goal
 
@@ -68,8 +68,3 @@ returns-clause-there c = λ p v p_in v_in is.
     let new = with_router s x c.grant_ready.new.self in
     let chosen : ReachesAt x s new = rw (chosen c) (chosen_in s x c.self.invariant here).1 in
     there_still s new x p v chosen.config (ready_there s x p v c.self.invariant here (ready_at c p v p_in v_in is))
-
-pub returns-clause-ready : goal.returns-clause-ready
-returns-clause-ready c = λ p v p_in v_in is.
-    rw (chosen c) (ready_chosen c.self.inside.fabric c.args.node p v c.self.invariant
-    (rw (c.self.view_is) c.requires) (ready_at c p v p_in v_in is))

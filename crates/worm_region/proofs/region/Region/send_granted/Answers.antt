@@ -4,7 +4,6 @@ use Rattle.worm_region.specs.Replies.{Attempts}
 use Rattle.worm_region.specs.Turns.{Each, granted_send}
 use Rattle.worm_region.proofs.Passages.{does_nothing, loop_cut, loop_more}
 use Rattle.worm_region.proofs.PassIsGrants.{there_still}
-use Rattle.worm_region.proofs.OthersReady.{left_ready}
 use Rattle.worm_region.proofs.GrantedSent.{sent_all, sent_by, sent_grant, sent_more, sent_place, sent_start, sent_still}
 use Rattle.worm_region.proofs.GrantedSent.{sent_to, was_granted}
 use Rattle.worm_region.proofs.TurnInParts.{sends_all}
@@ -13,17 +12,14 @@ use Rattle.worm_region.proofs.ReachedBySteps.{whole_after}
 use Rattle.worm_region.proofs.region.Region.send_granted.Goals as goal
 
 pub loop-port-init : goal.loop-port-init
-loop-port-init c = (
-  c.requires.ready,
-  λ grants _.
-      sent_start c.args.node c.args.granted c.args.self.now c.recall.ensures c.requires.there
-      (does_nothing c.args.self.now),
-)
+loop-port-init c = λ grants _.
+    sent_start c.args.node c.args.granted c.args.self.now c.recall.ensures c.requires.there
+    (does_nothing c.args.self.now)
 
 pub send_there-requires-clause-there : goal.send_there-requires-clause-there
 send_there-requires-clause-there c =
     let some = c.requires.granted in
-    let sent = c.loop-port.invariant.1 some.0 some.1 in
+    let sent = c.loop-port.invariant some.0 some.1 in
     let first = c.in-Some.ensures in
     there_still c.args.self.now c.loop-port.self c.args.node c.in-Some.port c.in-Some.vc
     sent.walked.done.reaches.config
@@ -31,37 +27,33 @@ send_there-requires-clause-there c =
 
 pub send_there-requires-clause-within : goal.send_there-requires-clause-within
 send_there-requires-clause-within c =
-    let sent = c.loop-port.invariant.1 c.requires.granted.0 c.requires.granted.1 in
+    let sent = c.loop-port.invariant c.requires.granted.0 c.requires.granted.1 in
     sends_within c.loop-port.self c.args.node c.in-Some.port c.in-Some.vc
     (whole_after c.args.self.now c.loop-port.self sent.walked.done.reaches.config c.requires.whole)
 
 pub loop-port-preserved : goal.loop-port-preserved
-loop-port-preserved c = (
-  left_ready c.loop-port.self c.send_there.new.self c.args.node c.loop-port.left c.pop_first.new.self c.in-Some.port
-      c.in-Some.vc c.loop-port.invariant.0 c.in-Some.ensures c.send_there.ensures.others,
-  λ grants are.
-      let sent = c.loop-port.invariant.1 grants are in
-      let first = c.in-Some.ensures in
-      let x = c.args.node in
-      let a = c.args.self.now in
-      let b = c.loop-port.self in
-      let answered = sent_by x grants c.in-Some.port c.in-Some.vc b c.send_there.new.self c.send_there.result None
-      (sent_grant grants are sent first) c.send_there.ensures.sent c.in_ok-tried.ensures in
-      sent_more grants are sent (sent_still x grants a b) first
-      (λ before. loop_more (λ p. Each Attempts (granted_send grants x p)) c.in-Some.port a b c.send_there.new.self None
-      before answered),
-)
+loop-port-preserved c = λ grants are.
+    let sent = c.loop-port.invariant grants are in
+    let first = c.in-Some.ensures in
+    let x = c.args.node in
+    let a = c.args.self.now in
+    let b = c.loop-port.self in
+    let answered = sent_by x grants c.in-Some.port c.in-Some.vc b c.send_there.new.self c.send_there.result None
+    (sent_grant grants are sent first) c.send_there.ensures c.in_ok-tried.ensures in
+    sent_more grants are sent (sent_still x grants a b) first
+    (λ before. loop_more (λ p. Each Attempts (granted_send grants x p)) c.in-Some.port a b c.send_there.new.self None
+    before answered)
 
 pub returns-in_err-tried : goal.returns-in_err-tried
 returns-in_err-tried c = λ grants are.
-    let sent = c.loop-port.invariant.1 grants are in
+    let sent = c.loop-port.invariant grants are in
     let first = c.in-Some.ensures in
     let x = c.args.node in
     let a = c.args.self.now in
     let b = c.loop-port.self in
     let fault = c.in_err-tried.field-0.0 in
     let answered = sent_by x grants c.in-Some.port c.in-Some.vc b c.send_there.new.self c.send_there.result (Some fault)
-    (sent_grant grants are sent first) c.send_there.ensures.sent c.in_err-tried.ensures in
+    (sent_grant grants are sent first) c.send_there.ensures c.in_err-tried.ensures in
     let p = err_from_is_err_and c.from_residual.result c.from_residual.ensures.1 in
     rw (p.1, p.2) (sends_all grants x a c.send_there.new.self (Some fault)
     (loop_cut (λ p. Each Attempts (granted_send grants x p)) c.in-Some.port (2 * length a.mesh + 1) a b
@@ -74,4 +66,4 @@ returns c = λ grants are.
     let a = c.args.self.now in
     let b = c.loop-port.self in
     sends_all grants x a b None
-    (sent_all grants are (c.loop-port.invariant.1 grants are) (sent_still x grants a b) c.in_default.ensures.0)
+    (sent_all grants are (c.loop-port.invariant grants are) (sent_still x grants a b) c.in_default.ensures.0)

@@ -1,7 +1,5 @@
-use Rattle.std.proofs.Common.{subst}
 use Rattle.worm_region.specs.Replies.{Replies}
 use Rattle.worm_region.specs.Workable.{IsWorkable}
-use Rattle.worm_region.proofs.OthersReady.{others_ready}
 use Rattle.worm_region.proofs.SendTried.{IsTried, is_tried}
 use Rattle.worm_theory.specs.Steps.{Send}
 use Rattle.worm_region.proofs.region.Region.send_there.Goals as goal
@@ -29,16 +27,11 @@ answered : (c : goal.After-send)
     → IsWorkable c.send.new.self
     × Replies c.args.self.now (Send c.args.node c.args.port c.args.vc) c.send.result c.send.new.self
 answered c =
-    (tried (goal.at.returns-clause-sent c).After-self).answers c.send.result c.send.new.self
+    (tried (goal.at.returns c).After-self).answers c.send.result c.send.new.self
     c.send.ensures
 
 pub invariant_of-self : goal.invariant_of-self
 invariant_of-self c = (answered c).0
 
-pub returns-clause-sent : goal.returns-clause-sent
-returns-clause-sent c = (answered c).1
-
-pub returns-clause-others : goal.returns-clause-others
-returns-clause-others c =
-    others_ready c.args.self.now c.send.new.self c.args.node c.args.port c.args.vc c.send.result
-    (subst IsWorkable c.self.view_is c.self.invariant) (answered c).1
+pub returns : goal.returns
+returns c = (answered c).1

@@ -3,7 +3,6 @@ use Rattle.worm_router.specs.Router.{RouterState, after_send, leaving}
 use Rattle.worm_region.specs.Edges.{LetsOut}
 use Rattle.worm_region.specs.State.{IsNetPlace, NetState, router_at, shape, with_router}
 use Rattle.worm_region.specs.Workable.{IsWorkable, owned}
-use Rattle.worm_region.proofs.OthersReady.{out_ready}
 use Rattle.worm_region.proofs.OwnEdges.{all_elsewhere}
 use Rattle.worm_region.proofs.EdgeMoves.{left_by}
 use Rattle.worm_region.proofs.PlacesThere.{place_inside}
@@ -47,15 +46,5 @@ sent-requires-clause-ready c =
 pub invariant_of-self : goal.invariant_of-self
 invariant_of-self c = (left (goal.at.invariant_of-self c).After-sent).0
 
-pub returns-clause-left : goal.returns-clause-left
-returns-clause-left c = (left (goal.at.returns-clause-left c).After-sent).1
-
-pub returns-clause-others : goal.returns-clause-others
-returns-clause-others c =
-    let s = c.args.self.now in
-    let here = place_inside _ s c.args.node c.args.port c.args.vc refl
-    (subst IsWorkable c.self.view_is c.self.invariant).framed c.requires.there in
-    λ p v away ready.
-    out_ready s _ c.args.node c.args.port c.args.vc p v (c.args.out, c.args.flit)
-    (subst IsWorkable c.self.view_is c.self.invariant) here away c.requires.ready
-    (left (goal.at.returns-clause-others c).After-sent).1.exact ready
+pub returns : goal.returns
+returns c = (left (goal.at.returns c).After-sent).1

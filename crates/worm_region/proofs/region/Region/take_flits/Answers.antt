@@ -1,7 +1,9 @@
-use Rattle.std.proofs.Common.{map, refl}
+use Rattle.std.proofs.Common.{Ok, map, refl}
 use Rattle.worm_theory.specs.Steps.{Take}
 use Rattle.worm_region.specs.Turns.{mesh_ports}
-use Rattle.worm_region.proofs.EachCovered.{covered_all, covered_start, flits, first_linked, ports_more}
+use Rattle.worm_region.proofs.EachCovered.{covered_all, covered_start, flits, flit_elsewhere, first_linked, ports_more}
+use Rattle.worm_region.specs.Answers.{moved_of}
+use Rattle.worm_region.proofs.Passages.{does_quietly}
 use Rattle.worm_region.proofs.region.Region.take_flits.Goals as goal
 
 pub loop-port-init : goal.loop-port-init
@@ -14,11 +16,17 @@ loop-port-init c =
 
 pub loop-port-preserved : goal.loop-port-preserved
 loop-port-preserved c =
-    let one = c.take_flit_at.ensures in
-    ports_more c.requires c.loop-port.invariant c.in-Some.ensures one.taken one.others one.sound
+    let moved = c.take_flit_there-moved in
+    let answer = Ok (moved_of moved.result) in
+    let s = c.loop-port.self in
+    let x = c.args.node in
+    let p = c.in-Some.port in
+    ports_more c.requires c.loop-port.invariant c.in-Some.ensures
+    (does_quietly s moved.new.self (Take x p) answer refl (λ grows. grows) moved.ensures)
+    (flit_elsewhere s moved.new.self x p answer c.recall.ensures moved.ensures) c.recall-in-Some.ensures
 
-pub take_flit_at-requires : goal.take_flit_at-requires
-take_flit_at-requires c = first_linked c.loop-port.invariant c.in-Some.ensures
+pub take_flit_there-moved-requires : goal.take_flit_there-moved-requires
+take_flit_there-moved-requires c = first_linked c.loop-port.invariant c.in-Some.ensures
 
 pub returns : goal.returns
 returns c =

@@ -1,20 +1,11 @@
 use Rattle.std.proofs.Common.{◌≡◌, ◌*◌, ℕ, List, [], ◌∷◌, length, fold, sym, subst, ◌∙◌, arith, inl, inr}
-use Rattle.std.proofs.Math.Nat.{mul_assoc, mul-one, one-mul}
 use Rattle.worm_mesh.specs.Address.{node_count, AreRadices}
 use Rattle.worm_mesh.specs.Faults.{IsFault}
 use Rattle.worm_mesh.specs.declared.mesh.MeshFault.{MeshFault}
 use Rattle.worm_mesh.specs.declared.mesh.MeshFault.TheVariants.{Radix, Dims, TooManyNodes}
 use Rattle.worm_text.specs.declared.format.Format.{Format}
-use Rattle.worm_text.specs.Network.{Network, Keeps, nodes_of, view}
+use Rattle.worm_text.specs.Network.{Network, Keeps, view}
 use Rattle.worm_rows.proofs.shape.Shape.of.Goals as goal
-
--- the product from the left is the product from the right
-product : (a : ℕ) (radices : List ℕ) → fold ◌*◌ a radices ≡ a * node_count radices
-product a [] = sym (mul-one a)
-product a (k ∷ radices) = product (a * k) radices ∙ mul_assoc a k (node_count radices)
-
-all_nodes : (radices : List ℕ) → nodes_of radices ≡ node_count radices
-all_nodes radices = product 1 radices ∙ one-mul (node_count radices)
 
 kept_mesh : (format : Format) (n : Network) → Keeps format n → AreRadices n.radices
 kept_mesh format n kept =
@@ -22,7 +13,7 @@ kept_mesh format n kept =
       some_dims = omega (arith, kept.mesh.dims.0);
       few_dims = kept.mesh.dims.1;
       radices = kept.mesh.each;
-      few_nodes = omega (arith, kept.mesh.nodes, all_nodes n.radices);
+      few_nodes = kept.mesh.nodes;
     }
 
 no_fault : (ks : List ℕ) (fault : MeshFault) → AreRadices ks → IsFault ks fault → ⊥

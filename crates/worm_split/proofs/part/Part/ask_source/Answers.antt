@@ -1,7 +1,7 @@
 use Rattle.std.proofs.Common.{◌≡◌, true, ◌∙◌, sym, subst}
 use Rattle.std.specs.Result.{result_err}
 use Rattle.worm_region.specs.Workable.{owned}
-use Rattle.worm_region.specs.declared.own.Own.{Own}
+use Rattle.worm_region.specs.declared.owner.Owner.{Owner}
 use Rattle.worm_split.specs.Apart.{IsKept}
 use Rattle.worm_split.specs.PartState.{PartState, part_state}
 use Rattle.worm_split.proofs.Inside.{inside_now, keeps_asked, part_with_net}
@@ -15,5 +15,5 @@ invariant_of-self c =
     let kept = keeps_asked p c.self.invariant.0 c.args.node here c.args.entries.now p.net c.ask_source.new.self
     (result_err c.ask_source.result) (inside_now p c.self.invariant.0) c.ask_source.ensures.does.exact in (
       part_with_net p c.self.invariant.0 c.ask_source.new.self kept.0 kept.1,
-      subst (λ (w : Own). IsKept i.opening.value w i.kept) (sym kept.1.own) c.self.invariant.1,
+      subst (λ (w : Owner). IsKept i.opening.value w i.kept) (sym kept.1.own) c.self.invariant.1,
     )

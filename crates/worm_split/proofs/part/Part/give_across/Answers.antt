@@ -1,6 +1,6 @@
 use Rattle.std.proofs.Common.{◌<◌, sum, arith, sym, subst}
 use Rattle.worm_mesh.specs.Address.{node_count}
-use Rattle.worm_region.specs.declared.own.Own.{Own}
+use Rattle.worm_region.specs.declared.owner.Owner.{Owner}
 use Rattle.worm_split.specs.Apart.{IsKept}
 use Rattle.worm_split.specs.PartState.{PartState, IsPart, part_state}
 use Rattle.worm_split.specs.PartTurns.{ComesBy}
@@ -53,7 +53,7 @@ invariant_of-self g c =
     let i = c.self.inside in
     let landed = gave_it (giving g (goal.at.invariant_of-self g c).After-index_mut) c.push_credit.new.end
     c.gave.new.self c.if-push_credit.ensures c.gave.ensures in
-    (landed.0, subst (λ (w : Own). IsKept i.opening.value w i.kept) (sym landed.2.config.own) c.self.invariant.1)
+    (landed.0, subst (λ (w : Owner). IsKept i.opening.value w i.kept) (sym landed.2.config.own) c.self.invariant.1)
 
 pub returns-then-push_credit-clause-gives : goal.returns-then-push_credit-clause-gives
 returns-then-push_credit-clause-gives g c =

@@ -1,6 +1,6 @@
 use Rattle.std.proofs.Common.{◌≡◌, Ok, true, refl, sym, subst, ◌∙◌}
 use Rattle.worm_region.specs.Workable.{owned}
-use Rattle.worm_region.specs.declared.own.Own.{Own}
+use Rattle.worm_region.specs.declared.owner.Owner.{Owner}
 use Rattle.worm_region.specs.declared.step.Moved.TheVariants.{Done}
 use Rattle.worm_split.specs.Apart.{IsKept}
 use Rattle.worm_split.specs.PartState.{PartState, part_state}
@@ -28,7 +28,7 @@ invariant_of-self c =
     let made = gave_within p c.self.invariant.0 c.args.node here c.args.port c.args.vc c.give_owed.new.self
     (Ok Done) stays c.give_owed.ensures in (
       part_with_net p c.self.invariant.0 c.give_owed.new.self made.0 made.1,
-      subst (λ (w : Own). IsKept i.opening.value w i.kept) (sym made.1.own) c.self.invariant.1,
+      subst (λ (w : Owner). IsKept i.opening.value w i.kept) (sym made.1.own) c.self.invariant.1,
     )
 
 pub returns-clause-gives : goal.returns-clause-gives

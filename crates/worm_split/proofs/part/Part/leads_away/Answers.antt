@@ -1,7 +1,7 @@
 use Rattle.std.proofs.Common.{◌≡◌, ℕ, ◌+◌, ◌*◌, ◌%◌, ◌<◌, length, Option, Some, None, arith, ap, sym, subst, refl, ◌∙◌}
 use Rattle.std.proofs.lemmas.Bool.Decides.{nat_tests}
 use Rattle.worm_mesh.specs.Address.{neighbour_of, stride_of}
-use Rattle.worm_region.specs.declared.own.Own.{Own}
+use Rattle.worm_region.specs.declared.owner.Owner.{Owner}
 use Rattle.worm_wires.proofs.StepsAdd.{step_from_zero}
 use Rattle.worm_split.specs.PartState.{PartState}
 use Rattle.worm_split.proofs.part.Part.leads_away.Goals as goal
@@ -29,7 +29,7 @@ returns c = λ no.
     let found : ◌≡◌ {A = Option ℕ} (Some c.in-Some.beyond) (Some (stride_of mesh c.args.dim)) = sym c.in-Some.is ∙ is in
     let same : c.in-Some.beyond ≡ stride_of mesh c.args.dim = cc in
     let size : stride_of mesh c.args.dim ≡ c.from.result = sym same ∙ sym c.from.ensures in
-    let count : net.own.workers ≡ c.own.result.workers = sym (ap (λ (w : Own). w.workers) c.own.ensures) in
+    let count : net.own.workers ≡ c.own.result.workers = sym (ap (λ (w : Owner). w.workers) c.own.ensures) in
     let rest : c.from.result % c.own.result.workers ≡ 0 = grind (arith, nat_tests) in
     subst (λ (p : PartState). stride_of p.net.mesh c.args.dim % p.net.own.workers ≡ 0) c.self.view_is
     ((λ t. (size t) % (count t)) ∙ rest)

@@ -3,8 +3,9 @@ use Rattle.std.proofs.lemmas.Result.{err_from_is_err_and}
 use Rattle.worm_router.specs.Allocation.{switch_grants}
 use Rattle.worm_region.specs.Prepared.{allocated_at}
 use Rattle.worm_region.specs.State.{router_at}
+use Rattle.worm_region.specs.Turns.{◌and_then◌}
 use Rattle.worm_split.specs.PartState.{PartState}
-use Rattle.worm_split.specs.PartTurns.{◌then◌, GivesCredits, NodePasses, SendsGranted}
+use Rattle.worm_split.specs.PartTurns.{GivesCredits, NodePasses, SendsGranted}
 use Rattle.worm_split.proofs.GrantsSent.{prepared, sent_chosen}
 use Rattle.worm_split.proofs.part.Part.node_passes.Goals as goal
 
@@ -24,7 +25,7 @@ returns-clause-passes g c =
     let a = c.rests.new.self in
     let b = c.prepare-granted.new.self in
     subst (λ (p : PartState). NodePasses x p None c.give_credits.new.self) c.rests.ensures.same
-    (prepared x c.prepare-granted.result (SendsGranted x then GivesCredits x) a b c.give_credits.new.self None
+    (prepared x c.prepare-granted.result (SendsGranted x and_then GivesCredits x) a b c.give_credits.new.self None
     c.prepare-granted.ensures.prepares
     (λ s chosen. inr (
       c.send_granted.new.self,
@@ -42,7 +43,7 @@ returns-in_err-send_granted-clause-passes g c =
     let p = err_from_is_err_and c.from_residual.result c.from_residual.ensures.1 in
     rw (p.1, p.2)
     (subst (λ (q : PartState). NodePasses x q fault c.send_granted.new.self) c.rests.ensures.same
-    (prepared x c.prepare-granted.result (SendsGranted x then GivesCredits x) a b c.send_granted.new.self fault
+    (prepared x c.prepare-granted.result (SendsGranted x and_then GivesCredits x) a b c.send_granted.new.self fault
     c.prepare-granted.ensures.prepares
     (λ s chosen. inl (
       refl,

@@ -8,11 +8,13 @@ use Rattle.std.specs.Prelude.{filter}
 use Rattle.worm_mesh.specs.Address.{node_count}
 use Rattle.worm_region.specs.Workable.{owned}
 use Rattle.worm_region.specs.declared.fault.StepFault.{StepFault}
-use Rattle.worm_region.specs.declared.own.Own.{Own}
+use Rattle.worm_region.specs.declared.owner.Owner.{Owner}
+use Rattle.worm_region.specs.Turns.{Each}
 use Rattle.worm_split.specs.PartState.{PartState}
-use Rattle.worm_split.specs.PartTurns.{EachOf, NodeTurn}
+use Rattle.worm_split.specs.PartTurns.{NodeTurn}
 use Rattle.worm_split.proofs.OwnNodes.{none_before, none_more, none_near}
-use Rattle.worm_split.proofs.PartLoops.{of_ending, of_next, of_one, same_on, same_still}
+use Rattle.worm_region.proofs.Passages.{each_one}
+use Rattle.worm_split.proofs.PartLoops.{of_ending, of_next, same_on, same_still}
 use Rattle.worm_split.proofs.part.Part.node_turns.Goals as goal
 use Rattle.worm_split.proofs.part.Part.node_turns.Goals.{After-from-node, After-node_turn}
 use Rattle.worm_split.proofs.part.Part.node_turns.Given as given
@@ -34,11 +36,11 @@ loop-node-init g c =
     let a = c.args.self.now in
     let less = worker_in g here in
     let start : c.from-node.result ≡ a.net.own.worker =
-    c.from-node.ensures ∙ ap (λ (w : Own). w.worker) (own_is g here) in
+    c.from-node.ensures ∙ ap (λ (w : Owner). w.worker) (own_is g here) in
     let none : filter (owned a.net) (range_with_len 0 c.from-node.result) ≡ [] =
     ap (λ (n : ℕ). filter (owned a.net) (range_with_len 0 n)) start ∙ none_before a.net.own less in
     record {
-      turned = subst (λ (ns : List ℕ). EachOf (NodeTurn c.args.entries.now) ns a None a) (sym none) (refl, refl);
+      turned = subst (λ (ns : List ℕ). Each (NodeTurn c.args.entries.now) ns a None a) (sym none) (refl, refl);
       same = same_still a;
       mine = ap (λ (n : ℕ). n % a.net.own.workers) start
           ∙ mod-eq_of_lt less;
@@ -48,16 +50,16 @@ loop-node-init g c =
 -- the turn of an own node, as the turns of the own ones among it alone
 one_turned : (g : given.Over) (c : After-node_turn g) (fault : Option StepFault)
     → NodeTurn c.args.entries.now c.loop-node.node c.loop-node.self fault c.node_turn.new.self
-    → EachOf (NodeTurn c.args.entries.now) (filter (owned c.args.self.now.net) (c.loop-node.node ∷ []))
+    → Each (NodeTurn c.args.entries.now) (filter (owned c.args.self.now.net) (c.loop-node.node ∷ []))
     c.loop-node.self fault c.node_turn.new.self
 one_turned g c fault turned =
     let a = c.args.self.now in
     let n = c.loop-node.node in
     let own : owned a.net n ≡ true = eq-eqb (n % a.net.own.workers) a.net.own.worker c.loop-node.invariant.mine in
     let one : filter (owned a.net) (n ∷ []) ≡ n ∷ [] = rw own refl in
-    subst (λ (ns : List ℕ). EachOf (NodeTurn c.args.entries.now) ns c.loop-node.self fault c.node_turn.new.self)
+    subst (λ (ns : List ℕ). Each (NodeTurn c.args.entries.now) ns c.loop-node.self fault c.node_turn.new.self)
     (sym one)
-    (of_one (NodeTurn c.args.entries.now) n c.loop-node.self c.node_turn.new.self fault turned)
+    (each_one (NodeTurn c.args.entries.now) n c.loop-node.self c.node_turn.new.self fault turned)
 
 pub loop-node-preserved : goal.loop-node-preserved
 loop-node-preserved g c =
@@ -70,7 +72,7 @@ loop-node-preserved g c =
     let less = worker_in g here in
     let nodes = nodes_are g here in
     let step : c.from-node-in-loop-node.result ≡ own.workers =
-    c.from-node-in-loop-node.ensures ∙ ap (λ (w : Own). w.workers) (own_is g here) in
+    c.from-node-in-loop-node.ensures ∙ ap (λ (w : Owner). w.workers) (own_is g here) in
     let next : (n + own.workers) % own.workers ≡ own.worker =
     add-mod_right n own.workers ∙ c.loop-node.invariant.mine in
     let past : n + 1 ≤ n + own.workers = omega (arith, less) in
@@ -82,9 +84,9 @@ loop-node-preserved g c =
     (one_turned g (goal.at.loop-node-preserved g c).After-node_turn None c.in_ok-node_turn.ensures.turn) in
     let test : n < node_count a.net.mesh = omega (arith, nodes, c.loop-node-test.true) in
     record {
-      turned = subst (λ (k : ℕ). EachOf (NodeTurn c.args.entries.now)
+      turned = subst (λ (k : ℕ). Each (NodeTurn c.args.entries.now)
           (filter (owned a.net) (range_with_len 0 (n + k))) a None new) (sym step)
-          (subst (λ (ns : List ℕ). EachOf (NodeTurn c.args.entries.now) ns a None new) (sym gap) turned);
+          (subst (λ (ns : List ℕ). Each (NodeTurn c.args.entries.now) ns a None new) (sym gap) turned);
       same = same_on a b new c.loop-node.invariant.same c.in_ok-node_turn.ensures.same;
       mine = ap (λ (k : ℕ). (n + k) % own.workers) step ∙ next;
       near = omega (arith, step, test);
@@ -116,4 +118,4 @@ returns-clause-turn g c =
     ≡ filter (owned a.net) (range_with_len 0 (node_count a.net.mesh))
     = none_more a.net.own (node_count a.net.mesh) n past
     (λ y above under. none_near a.net.own n y inside.mine under (omega (arith, above, near))) in
-    subst (λ (ns : List ℕ). EachOf (NodeTurn c.args.entries.now) ns a None c.loop-node.self) gap inside.turned
+    subst (λ (ns : List ℕ). Each (NodeTurn c.args.entries.now) ns a None c.loop-node.self) gap inside.turned

@@ -1,7 +1,7 @@
 use Rattle.std.proofs.Common.{◌≡◌, ◌<◌, true, sym, subst, ◌∙◌}
 use Rattle.worm_mesh.specs.Address.{node_count}
 use Rattle.worm_region.specs.Workable.{owned}
-use Rattle.worm_region.specs.declared.own.Own.{Own}
+use Rattle.worm_region.specs.declared.owner.Owner.{Owner}
 use Rattle.worm_split.specs.Apart.{IsKept}
 use Rattle.worm_split.specs.PartState.{PartState, part_state}
 use Rattle.worm_split.proofs.Inside.{inside_now, inside_prepared, part_with_net}
@@ -17,6 +17,6 @@ invariant_of-self c =
     let kept = inside_prepared p c.self.invariant.0 c.args.node here c.prepare.result p.net c.prepare.new.self there
     (inside_now p c.self.invariant.0) c.prepare.ensures.prepares in (
       part_with_net p c.self.invariant.0 c.prepare.new.self kept c.prepare.ensures.at_node.config,
-      subst (λ (w : Own). IsKept i.opening.value w i.kept) (sym c.prepare.ensures.at_node.config.own)
+      subst (λ (w : Owner). IsKept i.opening.value w i.kept) (sym c.prepare.ensures.at_node.config.own)
           c.self.invariant.1,
     )

@@ -1,5 +1,5 @@
 use Rattle.std.proofs.Common.{inr, refl, arith, sym, subst, ◌∙◌}
-use Rattle.worm_region.specs.declared.own.Own.{Own}
+use Rattle.worm_region.specs.declared.owner.Owner.{Owner}
 use Rattle.worm_split.specs.Apart.{IsKept}
 use Rattle.worm_split.specs.PartState.{part_state}
 use Rattle.worm_split.proofs.ComesByEnd.{CreditInHand, credit_taken, credit_put}
@@ -57,7 +57,7 @@ invariant_of-self-2 c =
     let i = c.self.inside in
     let put = credit_put (in_hand (goal.at.invariant_of-self-2 c).In-Some-pop_credit) c.arrive_credit.new.self
     c.arrive_credit.ensures in
-    (put.0, subst (λ (w : Own). IsKept i.opening.value w i.kept) (sym put.2.config.own) c.self.invariant.1)
+    (put.0, subst (λ (w : Owner). IsKept i.opening.value w i.kept) (sym put.2.config.own) c.self.invariant.1)
 
 pub returns : goal.returns
 returns c =

@@ -1,5 +1,5 @@
 use Rattle.std.proofs.Common.{inr, refl, arith, sym, subst, ◌∙◌}
-use Rattle.worm_region.specs.declared.own.Own.{Own}
+use Rattle.worm_region.specs.declared.owner.Owner.{Owner}
 use Rattle.worm_split.specs.Apart.{IsKept}
 use Rattle.worm_split.specs.PartState.{part_state}
 use Rattle.worm_split.proofs.ComesByEnd.{FlitInHand, flit_off, flit_put}
@@ -61,7 +61,7 @@ invariant_of-self-2 c =
     let i = c.self.inside in
     let put = flit_put (in_hand (goal.at.invariant_of-self-2 c).In-Some-pop_flit) c.arrive.new.self
     c.arrive.ensures in
-    (put.0, subst (λ (w : Own). IsKept i.opening.value w i.kept) (sym put.2.config.own) c.self.invariant.1)
+    (put.0, subst (λ (w : Owner). IsKept i.opening.value w i.kept) (sym put.2.config.own) c.self.invariant.1)
 
 pub returns : goal.returns
 returns c =

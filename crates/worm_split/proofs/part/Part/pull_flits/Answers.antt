@@ -1,7 +1,7 @@
 use Rattle.std.proofs.Common.{◌≡◌, ◌<◌, ℕ, List, true, sym, subst}
 use Rattle.worm_mesh.specs.Address.{node_count}
 use Rattle.worm_region.specs.Owned.{owned_by}
-use Rattle.worm_region.specs.declared.own.Own.{Own}
+use Rattle.worm_region.specs.declared.owner.Owner.{Owner}
 use Rattle.worm_split.specs.PartTurns.{PullsFlit}
 use Rattle.worm_split.proofs.PortsAsked.{asked_all, asked_more, asked_start, asks_flits}
 use Rattle.worm_split.proofs.part.Part.pull_flits.Goals as goal
@@ -14,7 +14,7 @@ pull_flit-requires-clause-node c = subst (λ (ks : List ℕ). c.args.node < node
     (sym c.loop-port.invariant.done.same.config.mesh) c.requires.node
 
 pub pull_flit-requires-clause-own : goal.pull_flit-requires-clause-own
-pull_flit-requires-clause-own c = subst (λ (w : Own). owned_by w c.args.node ≡ true)
+pull_flit-requires-clause-own c = subst (λ (w : Owner). owned_by w c.args.node ≡ true)
     (sym c.loop-port.invariant.done.same.config.own) c.requires.own
 
 pub loop-port-preserved : goal.loop-port-preserved

@@ -2,8 +2,7 @@ use Rattle.std.proofs.Common.{◌≡◌, Some, sym, subst}
 use Rattle.worm_router.specs.Router.{leaving}
 use Rattle.worm_theory.specs.Steps.{Send, IsThere}
 use Rattle.worm_region.specs.State.{router_at, shape}
-use Rattle.worm_region.specs.Turns.{OthersMaySend}
-use Rattle.worm_region.specs.declared.own.Own.{Own}
+use Rattle.worm_region.specs.declared.owner.Owner.{Owner}
 use Rattle.worm_split.specs.Apart.{IsKept}
 use Rattle.worm_split.specs.PartState.{PartState, IsPart, part_state}
 use Rattle.worm_split.specs.PartTurns.{LeavesBy}
@@ -45,19 +44,14 @@ pub invariant_of-self : goal.invariant_of-self
 invariant_of-self g c =
     let i = c.self.inside in
     let landed = went (going g (goal.at.invariant_of-self g c).After-index_mut) c.push_flit.new.end
-    c.sent.new.self c.if-push_flit.ensures c.sent.ensures.left in
-    (landed.0, subst (λ (w : Own). IsKept i.opening.value w i.kept) (sym landed.2.config.own) c.self.invariant.1)
+    c.sent.new.self c.if-push_flit.ensures c.sent.ensures in
+    (landed.0, subst (λ (w : Owner). IsKept i.opening.value w i.kept) (sym landed.2.config.own) c.self.invariant.1)
 
 pub returns-then-push_flit-clause-sends : goal.returns-then-push_flit-clause-sends
 returns-then-push_flit-clause-sends g c =
     let landed = went (going g (goal.at.returns-then-push_flit-clause-sends g c).After-index_mut) c.push_flit.new.end
-    c.sent.new.self c.if-push_flit.ensures c.sent.ensures.left in
+    c.sent.new.self c.if-push_flit.ensures c.sent.ensures in
     rw (← c.self.view_is) landed.1
-
-pub returns-then-push_flit-clause-others : goal.returns-then-push_flit-clause-others
-returns-then-push_flit-clause-others g c =
-    subst (λ (q : PartState). OthersMaySend q.net c.args.node c.args.port c.args.vc c.sent.new.self) c.self.view_is
-    c.sent.ensures.others
 
 -- where the push came back
 

@@ -1,9 +1,8 @@
 use Rattle.std.proofs.Common.{◌≡◌, true, sym, subst, ◌∙◌}
 use Rattle.worm_router.specs.Router.{leaving}
 use Rattle.worm_region.specs.State.{router_at}
-use Rattle.worm_region.specs.Turns.{OthersMaySend}
 use Rattle.worm_region.specs.Workable.{owned}
-use Rattle.worm_region.specs.declared.own.Own.{Own}
+use Rattle.worm_region.specs.declared.owner.Owner.{Owner}
 use Rattle.worm_split.specs.Apart.{IsKept}
 use Rattle.worm_split.specs.PartState.{PartState, part_state}
 use Rattle.worm_split.specs.PartTurns.{StaysWithin}
@@ -29,12 +28,7 @@ invariant_of-self c =
     let stays = subst (λ (q : PartState). StaysWithin q c.args.node
     (leaving (router_at q.net c.args.node) c.args.port c.args.vc)) (sym c.self.view_is) c.requires.stays in
     let made = sent_within p c.self.invariant.0 c.args.node here c.args.port c.args.vc c.send_there.new.self
-    c.recall.ensures.framed c.send_there.result stays c.send_there.ensures.sent in (
+    c.recall.ensures.framed c.send_there.result stays c.send_there.ensures in (
       part_with_net p c.self.invariant.0 c.send_there.new.self made.0 made.1,
-      subst (λ (w : Own). IsKept i.opening.value w i.kept) (sym made.1.own) c.self.invariant.1,
+      subst (λ (w : Owner). IsKept i.opening.value w i.kept) (sym made.1.own) c.self.invariant.1,
     )
-
-pub returns-clause-others : goal.returns-clause-others
-returns-clause-others c =
-    subst (λ (q : PartState). OthersMaySend q.net c.args.node c.args.port c.args.vc c.send_there.new.self)
-    c.self.view_is c.send_there.ensures.others

@@ -1,4 +1,0 @@
-pub mod ShapeOf
-pub mod Standing
-pub mod LaneMoves
-pub mod PacketPlaces

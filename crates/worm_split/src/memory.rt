@@ -1,0 +1,254 @@
+//! All that the parts of a network need, made before the network is taken apart.
+
+ghost use Rattle.std.specs.Prelude.{◌≡◌, ◌<◌, ◌*◌, All, IfOk, length, replicate, sum, ℕ, slice_get, Some};
+ghost use Rattle.worm_flit.specs.Channels.{AreChannels, owner_of};
+ghost use Rattle.worm_mesh.specs.Address.{Joins};
+ghost use Rattle.worm_mesh.specs.Links.{link_count};
+ghost use Rattle.worm_theory.specs.Openings.{past_of};
+ghost use Rattle.worm_wires.specs.Links.{empty_link};
+ghost use Rattle.worm_region.specs.State.{network_of, shape};
+ghost use Rattle.worm_region.specs.Parts.{IsConfigOf};
+ghost use Rattle.worm_split.specs.Ends.{AreEndsMade, IsLinkOf};
+ghost use Rattle.worm_split.specs.declared.ends.End.TheVariants.{Inner};
+ghost use Rattle.worm_split.specs.Apart.{AreWays};
+ghost use Rattle.worm_split.specs.Splits.{AreLinesMade, AreRooms, IsLineMade, IsSeat};
+
+use crate::ends::{End, Line};
+use crate::part::Part;
+use std::alloc::{AllocError, Global};
+use std::marker::Brand;
+use std::snapshot::Snapshot;
+use worm_core::{Config, Inboxes, LinkState, Net, Node, fresh_links, fresh_nodes};
+use worm_flit::ClassChannels;
+use worm_links::{LinkCfg, Opening, credit_line, link_after};
+use worm_mesh::{LinkEnds, Mesh};
+
+/// A worker's lists before it has anything.
+#[derive(Drop)]
+pub struct Seat {
+    /// What the network was made from.
+    pub(crate) config: Config,
+    /// A fresh node for each.
+    pub(crate) nodes: Vec<Node>,
+    /// An empty link for each.
+    pub(crate) links: Vec<LinkState>,
+    /// Memory for the inboxes of its nodes.
+    pub(crate) inboxes: Inboxes,
+    /// No end of any.
+    pub(crate) ends: Vec<End>,
+    /// The network that is split.
+    pub(crate) opening: Snapshot<Net>,
+    /// Both ends of each link, as they were made.
+    pub(crate) lines: Snapshot<Vec<Line>>,
+}
+
+/// What the parts need.
+#[derive(Drop)]
+pub(crate) struct Rooms {
+    /// The two nodes of each link.
+    pub(crate) ways: Vec<LinkEnds>,
+    /// Both ends of each link between two workers.
+    pub(crate) lines: Vec<Line>,
+    /// The lists of each worker.
+    pub(crate) seats: Vec<Seat>,
+    /// No part yet, but room for all.
+    pub(crate) parts: Vec<Part>,
+}
+
+/// The two nodes of each link.
+fn make_ways(alloc: Global, mesh: &Mesh) -> Result<Vec<LinkEnds>, AllocError>
+    ensures { IfOk result (λ ways. AreWays mesh.now ways.items) }
+{
+    let mut ways = Vec::with_capacity(alloc, usize::from(mesh.links()))?;
+    for number in 0..mesh.links() {
+        let Some(ends) = mesh.link_ends(number) else {
+            unreachable!()
+        };
+        ways.push(ends)?;
+    }
+    Ok(ways)
+}
+
+/// The class that owns each channel.
+fn owners_of(classes: &ClassChannels) -> [u8; 8]
+    ensures { (v : ℕ) → v < sum classes.now → slice_get result v ≡ Some (owner_of classes.now v) }
+{
+    let mut owners = [0u8; 8];
+    for channel in 0..classes.total() {
+        owners[usize::from(channel)] = classes.owner(channel);
+    }
+    owners
+}
+
+/// The two ends of a link, over which what is on it now is held to have gone before.
+fn make_line<B: Opening>(
+    alloc: Global,
+    net: &Net,
+    way: LinkEnds,
+    cfg: &LinkCfg,
+) -> Result<Line, AllocError>
+    requires link { IsLinkOf net.now.mesh net.now.channels way.from way.out_port cfg.now }
+    requires depth { cfg.now.depth ≡ net.now.depth }
+    requires joined { Joins net.now.mesh way.from way.out_port way.to }
+    requires past { B.past ≡ past_of (shape net.now) (network_of net.now) way.from way.out_port way.to }
+    ensures { IfOk result (λ line. AreEndsMade net.now.mesh net.now.channels net.now.depth way.from way.out_port
+        (past_of (shape net.now) (network_of net.now) way.from way.out_port way.to) line.out line.into) }
+{
+    net.recall();
+    let Ok((tx, rx)) = link_after::<B>(alloc, *cfg) else {
+        return Err(AllocError);
+    };
+    let Ok((give, back)) = credit_line(alloc, *cfg) else {
+        return Err(AllocError);
+    };
+    Ok(Line {
+        out: End::Leaving(tx, back),
+        into: End::Entering(rx, give),
+    })
+}
+
+/// The line of a link: its two ends where its nodes are of two workers, and no ends where they are of one.
+fn make_line_of(
+    alloc: Global,
+    net: &Net,
+    way: LinkEnds,
+    cfg: &LinkCfg,
+    workers: u16,
+) -> Result<Line, AllocError>
+    requires workers { 0 < workers }
+    requires link { IsLinkOf net.now.mesh net.now.channels way.from way.out_port cfg.now }
+    requires depth { cfg.now.depth ≡ net.now.depth }
+    requires joined { Joins net.now.mesh way.from way.out_port way.to }
+    ensures { IfOk result (λ line. IsLineMade net.now workers way line) }
+{
+    if u16::from(way.from) % workers == u16::from(way.to) % workers {
+        return Ok(Line {
+            out: End::Inner,
+            into: End::Inner,
+        });
+    }
+    make_line::<Brand>(alloc, net, way, cfg)
+}
+
+/// The lines of all links.
+fn make_lines(
+    alloc: Global,
+    net: &Net,
+    config: &Config,
+    mesh: &Mesh,
+    ways: &Vec<LinkEnds>,
+    workers: u16,
+) -> Result<Vec<Line>, AllocError>
+    requires workers { 0 < workers }
+    requires mesh { mesh.now ≡ net.now.mesh }
+    requires config { IsConfigOf net.now config.now }
+    requires classes { AreChannels net.now.channels }
+    requires ways { AreWays net.now.mesh ways.now.items }
+    ensures { IfOk result (λ lines. AreLinesMade net.now workers ways.now.items lines.items) }
+{
+    let classes = ClassChannels::new(config.channels.as_slice());
+    let owners = owners_of(&classes);
+    let mut lines = Vec::with_capacity(alloc, ways.len())?;
+    for k in 0..ways.len() {
+        let way = ways[k];
+        let cfg = LinkCfg {
+            mesh: *mesh,
+            node: way.from,
+            port: way.out_port,
+            channels: classes.total(),
+            depth: config.depth,
+            owners,
+        };
+        lines.push(make_line_of(alloc, net, way, &cfg, workers)?)?;
+    }
+    Ok(lines)
+}
+
+/// For how many ends more than it has a list of a worker has room: 128 bytes that stay empty, so that no two workers
+/// write one cache line.
+const APART: usize = 8;
+
+/// No ends.
+fn make_ends(alloc: Global, count: u16) -> Result<Vec<End>, AllocError>
+    ensures { IfOk result (λ v. v.items ≡ replicate count Inner) }
+{
+    let mut ends = Vec::with_capacity(alloc, usize::from(count) + APART)?;
+    for _number in 0..count {
+        ends.push(End::Inner)?;
+    }
+    Ok(ends)
+}
+
+/// A worker's lists.
+fn make_seat(
+    alloc: Global,
+    net: &Net,
+    lines: &Vec<Line>,
+    count: u16,
+    room: u16,
+) -> Result<Seat, AllocError>
+    requires count { count ≡ link_count net.now.mesh }
+    requires room { room ≡ sum net.now.channels * net.now.depth }
+    ensures { IfOk result (λ seat. IsSeat net.now lines.now.items seat) }
+{
+    net.recall();
+    let config = net.config();
+    let nodes = fresh_nodes(alloc, &config)?;
+    let links = fresh_links(alloc, count, room)?;
+    let inboxes = Inboxes::new(alloc)?;
+    let ends = make_ends(alloc, count)?;
+    Ok(Seat {
+        config,
+        nodes,
+        links,
+        inboxes,
+        ends,
+        opening: Snapshot::of(net),
+        lines: Snapshot::of(lines),
+    })
+}
+
+/// The lists of each worker.
+fn make_seats(
+    alloc: Global,
+    net: &Net,
+    lines: &Vec<Line>,
+    count: u16,
+    room: u16,
+    workers: u16,
+) -> Result<Vec<Seat>, AllocError>
+    requires count { count ≡ link_count net.now.mesh }
+    requires room { room ≡ sum net.now.channels * net.now.depth }
+    ensures all { IfOk result (λ seats. All (IsSeat net.now lines.now.items) seats.items) }
+    ensures number { IfOk result (λ seats. length seats.items ≡ workers) }
+{
+    let mut seats = Vec::with_capacity(alloc, usize::from(workers))?;
+    for _worker in 0..workers {
+        seats.push(make_seat(alloc, net, lines, count, room)?)?;
+    }
+    Ok(seats)
+}
+
+/// All that the parts need.
+pub(crate) fn make_rooms(alloc: Global, net: &Net, workers: u16) -> Result<Rooms, AllocError>
+    requires workers { 0 < workers }
+    ensures { IfOk result (λ rooms. AreRooms net.now workers rooms) }
+{
+    net.recall();
+    let config = net.config();
+    let Ok(mesh) = Mesh::new(config.radices.as_slice()) else {
+        unreachable!()
+    };
+    let ways = make_ways(alloc, &mesh)?;
+    let lines = make_lines(alloc, net, &config, &mesh, &ways, workers)?;
+    let classes = ClassChannels::new(config.channels.as_slice());
+    let room = u16::from(classes.total()) * u16::from(config.depth);
+    let seats = make_seats(alloc, net, &lines, mesh.links(), room, workers)?;
+    let parts = Vec::with_capacity(alloc, usize::from(workers))?;
+    Ok(Rooms {
+        ways,
+        lines,
+        seats,
+        parts,
+    })
+}

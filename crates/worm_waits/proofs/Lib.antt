@@ -1,0 +1,3 @@
+mod Pieces
+mod Following
+mod Telling
