@@ -1,14 +1,19 @@
-//! What the tests share: a text, runs of two texts on this thread, and what a run answers, says and writes.
+//! What the tests share: a text, runs of two texts on this thread by each call that takes them, and what a run
+//! answers, says and writes.
 //!
 //! No helper has a contract: so what is known of a whole run ends at the helper that takes it, and each test is proved
 //! in little time.
 
+use crate::run::workers::run_both;
 use std::alloc::{AllocError, Global};
 use std::fmt::Debug;
 use std::io::Read;
 use std::process::Abort;
+use std::sync::Wait;
 use std::test::Fail;
+use std::thread::Threads;
 use worm_program::{ProgramFault, run_alone, run_joined};
+use worm_run::FreeGate;
 
 /// Two nodes, one class with one channel, and buffers of one flit.
 pub const SHALLOW: &[u8] = b"wormnet 1\nradix 2\ndims 1\ndepth 1\nclass data\nend\n";
@@ -53,6 +58,18 @@ pub fn run_pair(alloc: Global, network: &[u8], traffic: &[u8], options: (u64, u6
     run_readers(alloc, &mut network, &mut traffic, options)
 }
 
+/// The same by the call that takes workers, with one.
+fn run_one<R: Threads + Wait + Sync>(
+    rt: &R,
+    alloc: Global,
+    network: &[u8],
+    traffic: &[u8],
+    options: (u64, u64),
+) -> Ran {
+    let (turns, drain) = options;
+    run_both(rt, alloc, (network, traffic), (turns, 1, drain), &FreeGate)
+}
+
 /// The answer of a run is this one.
 pub fn answers(
     rt: &impl Abort,
@@ -68,9 +85,9 @@ pub fn gives(rt: &impl Abort, ran: &Ran, answer: Result<(), ProgramFault>, repor
     are_equal(rt, ran.report.as_slice(), report);
 }
 
-/// The two texts give this report.
+/// The two texts give this report, by either call.
 pub fn reports(
-    rt: &impl Abort,
+    rt: &(impl Abort + Threads + Wait + Sync),
     alloc: Global,
     network: &[u8],
     traffic: &[u8],
@@ -78,6 +95,8 @@ pub fn reports(
     wanted: &str,
 ) {
     let ran = run_pair(alloc, network, traffic, options);
+    gives(rt, &ran, Ok(()), wanted.as_bytes());
+    let ran = run_one(rt, alloc, network, traffic, options);
     gives(rt, &ran, Ok(()), wanted.as_bytes());
 }
 
@@ -118,9 +137,21 @@ pub fn is_fault(
     }
 }
 
-/// The texts are refused with this status and line, and nothing is written.
-pub fn is_refused(
+/// Nothing was written, and the answer is a fault with this status and this line.
+pub fn is_refusal(
     rt: &impl Abort,
+    alloc: Global,
+    ran: &Ran,
+    status: u8,
+    line: &str,
+) -> Result<(), Fail> {
+    assert!(rt; ran.report.is_empty());
+    is_fault(rt, alloc, ran.answer, status, line)
+}
+
+/// The texts are refused with this status and line by either call, and nothing is written.
+pub fn is_refused(
+    rt: &(impl Abort + Threads + Wait + Sync),
     alloc: Global,
     network: &[u8],
     traffic: &[u8],
@@ -128,6 +159,7 @@ pub fn is_refused(
     line: &str,
 ) -> Result<(), Fail> {
     let ran = run_pair(alloc, network, traffic, (1, 0));
-    assert!(rt; ran.report.is_empty());
-    is_fault(rt, alloc, ran.answer, status, line)
+    is_refusal(rt, alloc, &ran, status, line)?;
+    let ran = run_one(rt, alloc, network, traffic, (1, 0));
+    is_refusal(rt, alloc, &ran, status, line)
 }

@@ -1,6 +1,6 @@
 //! Texts of as many bytes as are read, and of one byte more.
 
-use crate::run::cases::{Ran, is_fault, run_reader, run_readers};
+use crate::run::cases::{Ran, is_refusal, run_reader, run_readers};
 use std::alloc::Global;
 use std::io;
 use std::io::Read;
@@ -45,12 +45,6 @@ fn as_many_bytes_as_a_text_may_have_are_read(rt: HostRuntime) {
     reads(&rt, rt.alloc(), MOST + 1, Err(ReadFault::Unreadable));
 }
 
-/// Nothing was written, and the fault has this status and this line.
-fn is_told(rt: &impl Abort, alloc: Global, ran: &Ran, status: u8, line: &str) -> Result<(), Fail> {
-    assert!(rt; ran.report.is_empty());
-    is_fault(rt, alloc, ran.answer, status, line)
-}
-
 /// A run of a network's text of so many bytes.
 fn run_network(alloc: Global, left: usize) -> Ran {
     let mut traffic = TWO_WORDS;
@@ -60,9 +54,9 @@ fn run_network(alloc: Global, left: usize) -> Ran {
 #[test]
 fn a_network_of_one_line(rt: HostRuntime) -> Result<(), Fail> {
     let ran = run_network(rt.alloc(), MOST);
-    is_told(&rt, rt.alloc(), &ran, 3, "wormrun: network line 1: no end")?;
+    is_refusal(&rt, rt.alloc(), &ran, 3, "wormrun: network line 1: no end")?;
     let ran = run_network(rt.alloc(), MOST + 1);
-    is_told(&rt, rt.alloc(), &ran, 5, "wormrun: cannot read network")
+    is_refusal(&rt, rt.alloc(), &ran, 5, "wormrun: cannot read network")
 }
 
 /// A run of traffic of so many bytes on two nodes.
@@ -74,15 +68,15 @@ fn run_traffic(alloc: Global, left: usize) -> Ran {
 #[test]
 fn traffic_of_one_line(rt: HostRuntime) -> Result<(), Fail> {
     let ran = run_traffic(rt.alloc(), MOST);
-    is_told(&rt, rt.alloc(), &ran, 4, "wormrun: traffic line 1: no end")?;
+    is_refusal(&rt, rt.alloc(), &ran, 4, "wormrun: traffic line 1: no end")?;
     let ran = run_traffic(rt.alloc(), MOST + 1);
-    is_told(&rt, rt.alloc(), &ran, 5, "wormrun: cannot read traffic")
+    is_refusal(&rt, rt.alloc(), &ran, 5, "wormrun: cannot read traffic")
 }
 
 #[test]
 fn a_joined_input_of_one_line(rt: HostRuntime) -> Result<(), Fail> {
     let ran = run_reader(rt.alloc(), &mut Crosses { left: MOST });
-    is_told(&rt, rt.alloc(), &ran, 3, "wormrun: network line 1: no end")?;
+    is_refusal(&rt, rt.alloc(), &ran, 3, "wormrun: network line 1: no end")?;
     let ran = run_reader(rt.alloc(), &mut Crosses { left: MOST + 1 });
-    is_told(&rt, rt.alloc(), &ran, 5, "wormrun: cannot read network")
+    is_refusal(&rt, rt.alloc(), &ran, 5, "wormrun: cannot read network")
 }

@@ -4,7 +4,9 @@ use crate::run::cases::{answers, are_equal, gives, is_refused, reports, run_pair
 use std::alloc::{AllocError, Global};
 use std::io::Write;
 use std::process::Abort;
+use std::sync::Wait;
 use std::test::Fail;
+use std::thread::Threads;
 use worm_cases::{
     THREE_BY_TWO, TWO_CHANNELS, TWO_NODES, TWO_NODES_AND_WORDS, TWO_WORDS, WORD_AND_MARK,
 };
@@ -167,7 +169,10 @@ fn no_end(alloc: Global, text: &str, cut: &[u8]) -> Result<String, AllocError> {
 }
 
 /// The network text that is cut before its end is refused.
-fn cut_networks_are_refused(rt: &impl Abort, alloc: Global) -> Result<(), Fail> {
+fn cut_networks_are_refused(
+    rt: &(impl Abort + Threads + Wait + Sync),
+    alloc: Global,
+) -> Result<(), Fail> {
     for length in 0..TWO_NODES.len() {
         let cut = &TWO_NODES[..length];
         let line = no_end(alloc, "network", cut)?;
@@ -177,7 +182,10 @@ fn cut_networks_are_refused(rt: &impl Abort, alloc: Global) -> Result<(), Fail> 
 }
 
 /// The traffic text that is cut before its end is refused.
-fn cut_traffic_is_refused(rt: &impl Abort, alloc: Global) -> Result<(), Fail> {
+fn cut_traffic_is_refused(
+    rt: &(impl Abort + Threads + Wait + Sync),
+    alloc: Global,
+) -> Result<(), Fail> {
     for length in 0..TWO_WORDS.len() {
         let cut = &TWO_WORDS[..length];
         let line = no_end(alloc, "traffic", cut)?;
