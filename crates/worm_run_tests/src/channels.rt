@@ -11,8 +11,7 @@ use std::sync::Wait;
 use std::thread::Threads;
 use worm_core::Script;
 use worm_flit::{Flit, Lane};
-use worm_run::FreeGate;
-use worm_split::Part;
+use worm_run::{FreeGate, Part};
 
 /// Every worker takes the turn, one after another. False where a fault ended one.
 fn all_take<R: Wait>(rt: &R, parts: &mut Vec<Part>, turn: u64, script: &Script) -> bool

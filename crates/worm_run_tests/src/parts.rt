@@ -12,7 +12,7 @@ use std::sync::Wait;
 use std::thread;
 use std::thread::{Promise, PromisedHandle, Scope, Threads};
 use worm_core::{LaneView, Net, Script};
-use worm_split::{Part, join, split};
+use worm_run::{Part, join, split};
 
 /// The parts of the network, for so many workers.
 pub fn parts_of<R: Abort + AllocGlobal>(rt: &R, net: Net, workers: usize) -> Vec<Part>
@@ -188,7 +188,7 @@ fn turned_on_two_threads<R: Abort + AllocGlobal + Copy + Threads + Wait + Sync>(
 }
 
 /// Of each lane between opposite nodes of sixteen, the words that were delivered, followed by those under way from the
-/// sink back, are those injected, in order.
+/// sink back, are those injected, in order. The other lanes have nothing.
 fn all_lanes_are_cut<R: Abort + AllocGlobal + Copy>(trial: &Trial<R>) {
     for src in 0u8..16 {
         let words = trial.words_to(src, 15 - src);
@@ -198,6 +198,7 @@ fn all_lanes_are_cut<R: Abort + AllocGlobal + Copy>(trial: &Trial<R>) {
             "from node {src}"
         );
     }
+    trial.has_in_lanes(48);
 }
 
 #[test]

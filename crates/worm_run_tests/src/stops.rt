@@ -5,6 +5,7 @@ use crate::trial::Trial;
 use std::process::Abort;
 use std::sync::Wait;
 use std::thread::Threads;
+use worm_flit::Flit;
 use worm_run::{FreeGate, Gate, Stop, StopWhy};
 
 /// Stops one worker at one turn.
@@ -66,10 +67,11 @@ fn one_stops<R: Abort + AllocGlobal + Copy + Threads + Wait + Sync>(rt: R, gate:
     let ran = opposite(rt, &[4, 4], 15).run(4, 50, &gate);
     let trial = ran.ended(&[gate.stop()], &turns_until(gate));
     assert!(rt; all_cut(&trial, gate), "{gate:?}");
-    let sent = if gate.turn == 0 { 36 } else { 48 };
+    let sent = if gate.turn == 0 { 36u64 } else { 48 };
+    trial.has_in_lanes(sent);
     let totals = trial.settled().totals();
-    assert_eq!(rt; totals.injected, sent, "{gate:?}");
-    assert_eq!(rt; totals.delivered, sent, "{gate:?}");
+    assert_eq!(rt; totals.injected, u128::from(sent), "{gate:?}");
+    assert_eq!(rt; totals.delivered, u128::from(sent), "{gate:?}");
 }
 
 #[test]
@@ -104,12 +106,17 @@ fn a_stopped_network_goes_on(rt: HostRuntime) {
     hundred_turns_deliver(stopped_early(rt));
 }
 
+/// The flits that were delivered to the second of two nodes.
+fn arrived<R: Abort + AllocGlobal + Copy>(trial: &Trial<R>) -> Vec<Flit> {
+    Vec::from_slice(trial.rt.alloc(), trial.flits_at(1)).expect(&trial.rt, "memory")
+}
+
 #[test]
 fn a_stopped_network_is_run_again(rt: HostRuntime) {
     let trial = stopped_early(rt).without_traffic();
-    let before = trial.words_at(1);
+    let before = arrived(&trial);
     let trial = trial.run(2, 100, &FreeGate).ended(&[], &[100, 100]);
-    let after = trial.words_at(1);
+    let after = arrived(&trial);
     assert!(rt; after.as_slice().starts_with(before.as_slice()));
     hundred_turns_deliver(trial);
 }

@@ -183,6 +183,24 @@ impl<R: Abort + AllocGlobal + Copy> Trial<R> {
         assert_eq!(self.rt; self.standings(lane).as_slice(), places);
     }
 
+    /// How many flits the lanes of sixteen nodes have, delivered or under way.
+    fn flits_in_lanes(&self) -> u64 {
+        let mut count = 0u64;
+        for src in 0u8..16 {
+            for dst in 0u8..16 {
+                let view = self.view(lane(src, dst));
+                count = count.saturating_add(view.delivered);
+                count = count.saturating_add(view.underway.len() as u64);
+            }
+        }
+        count
+    }
+
+    /// The lanes of sixteen nodes have so many flits, delivered or under way.
+    pub fn has_in_lanes(&self, count: u64) {
+        assert_eq!(self.rt; self.flits_in_lanes(), count);
+    }
+
     /// The words delivered at `dst`, followed by those under way to it from `src`, which alone sends to it.
     pub fn words_to(&self, src: u8, dst: u8) -> Vec<u32> {
         let mut words = self.words_at(dst);

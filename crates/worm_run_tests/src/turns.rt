@@ -8,8 +8,8 @@ use crate::parts::{joined, parts_of};
 use crate::trial::Trial;
 use std::process::Abort;
 use std::sync::Wait;
-use worm_core::{Place, Script};
-use worm_split::Part;
+use worm_core::{LinkState, Place, Script};
+use worm_run::Part;
 
 /// The worker takes these turns, from turn 0 on. False where one was ended by a fault.
 fn take_turns<R: Wait>(
@@ -52,7 +52,10 @@ fn credits<R: Abort + AllocGlobal + Copy>(trial: Trial<R>) -> (usize, Option<u8>
     let (rt, net, _script) = trial.into_inner();
     let parts = net.into_parts();
     match parts.links.get(0) {
-        Some(link) => (link.credit_count(), link.front_credit()),
+        Some(link) => {
+            let LinkState { flits: _, credits } = link;
+            (credits.len(), credits.front().copied())
+        }
         None => panic!(rt; "no link"),
     }
 }
