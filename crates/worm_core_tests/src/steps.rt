@@ -59,3 +59,7 @@ pub fn take(node: u8, port: u8) -> Step {
 pub fn give(node: u8, port: u8, vc: u8) -> Step {
     Step::GiveCredit { node, port, vc }
 }
+
+pub fn take_credit(node: u8, port: u8) -> Step {
+    Step::TakeCredit { node, port }
+}

@@ -279,6 +279,11 @@ impl<R: Abort + AllocGlobal + Copy> Trial<R> {
         are_equal(&self.rt, self.view(lane).underway.len(), count);
     }
 
+    /// There are so many classes.
+    pub fn has_classes(&self, count: u8) {
+        are_equal(&self.rt, self.net.classes(), count);
+    }
+
     /// So many classes have names.
     pub fn has_names(&self, count: usize) {
         are_equal(&self.rt, self.net.config().classes.len(), count);

@@ -68,6 +68,30 @@ fn grants_go_round(rt: HostRuntime) {
     grants_one(&rt, &mut alloc, &ready, 0, sends(1, 1));
 }
 
+/// With all three ports ready for output port 1, this one would send: the pointer of that output port's arbiter is its
+/// number. The allocator is a copy, and the other does not move.
+fn points_to(rt: &impl Abort, mut alloc: SwAlloc, port: u8) {
+    let ready = ready_of(rt, &[(0, 0, 1), (1, 0, 1), (2, 0, 1)]);
+    grants_one(rt, &mut alloc, &ready, port, sends(0, 1));
+}
+
+/// Channel 0 of port 0 and channel 1 of port 2 are ready for output port 1 in three passes, and then the latter alone.
+#[test]
+fn a_pointer_goes_one_past_each_winner(rt: HostRuntime) {
+    let mut alloc = SwAlloc::new(3, 2);
+    let both = ready_of(&rt, &[(0, 0, 1), (2, 1, 1)]);
+    points_to(&rt, alloc, 0);
+    grants_one(&rt, &mut alloc, &both, 0, sends(0, 1));
+    points_to(&rt, alloc, 1);
+    grants_one(&rt, &mut alloc, &both, 2, sends(1, 1));
+    points_to(&rt, alloc, 0);
+    grants_one(&rt, &mut alloc, &both, 0, sends(0, 1));
+    points_to(&rt, alloc, 1);
+    let last = ready_of(&rt, &[(2, 1, 1)]);
+    grants_one(&rt, &mut alloc, &last, 2, sends(1, 1));
+    points_to(&rt, alloc, 0);
+}
+
 /// Ports 0 and 2 both ask for output port 1, and port 1 for output port 0.
 #[test]
 fn each_output_port_is_granted_once(rt: HostRuntime) {

@@ -20,6 +20,7 @@ fn parts_make_the_same_network(rt: HostRuntime) {
     let far = lane(0, 5, 1);
     trial.run([offer(&rt, far, &[9]), feed(0, 1)]);
     let trial = trial.through_parts(&SHAPE);
+    trial.has_classes(2);
     trial.has_names(2);
     trial.has_under_way(far, 1);
 }

@@ -1,12 +1,20 @@
 //! Turns: who is asked, what moves in which turn, and what a refusal leaves.
 
 use crate::cases::{are_equal, config, to_offer};
-use crate::steps::{buffer, feed, grant, link, offer, route, send, take};
+use crate::steps::{buffer, feed, grant, link, offer, route, send, take, take_credit};
 use crate::trial::{Standing, Trial, made};
 use std::alloc::Global;
 use std::process::Abort;
 use worm_cases::lane;
 use worm_core::{Moved, Net, NetFault, OfferFault, Place, ScriptFault, StepFault};
+
+/// Three nodes in a line and two classes: node 0 has two words for node 2, and node 1 has two of the other class.
+fn two_lanes<R: Abort + AllocGlobal + Copy>(rt: R) -> Trial<R> {
+    let mut trial = Trial::new(rt, &[3], 2, &[1, 1]);
+    trial.offer_at(0, lane(0, 2, 0), &[1, 2]);
+    trial.offer_at(0, lane(1, 2, 1), &[3, 4]);
+    trial
+}
 
 /// Takes a turn. Node 2 then has these words, and these flits of the two lanes are under way.
 fn takes_turn<R: Abort + AllocGlobal + Copy>(
@@ -27,9 +35,7 @@ fn takes_turn<R: Abort + AllocGlobal + Copy>(
 /// by rising number.
 #[test]
 fn an_arbiter_serves_two_lanes_in_turn(rt: HostRuntime) {
-    let mut trial = Trial::new(rt, &[3], 2, &[1, 1]);
-    trial.offer_at(0, lane(0, 2, 0), &[1, 2]);
-    trial.offer_at(0, lane(1, 2, 1), &[3, 4]);
+    let mut trial = two_lanes(rt);
     let source = (0, 1, Place::Source);
     let head = (0, 0, buffer(1, 2, 1));
     let tail = (0, 1, buffer(1, 2, 1));
@@ -40,6 +46,35 @@ fn an_arbiter_serves_two_lanes_in_turn(rt: HostRuntime) {
     assert!(rt; !trial.is_drained());
     takes_turn(&mut trial, 3, &[1, 3, 2, 4], &[], &[]);
     assert!(rt; trial.is_drained());
+}
+
+/// In the first turn node 1 grants both heads their channels, so that the second can leave, too. It gives back a credit
+/// for the first.
+#[test]
+fn both_lanes_are_granted_in_one_turn(rt: HostRuntime) {
+    let mut trial = two_lanes(rt);
+    trial.takes_turn(0);
+    trial.does([send(1, 2, 1), take_credit(0, 1)]);
+    let left = [(0, 0, link(1, 1, 1)), (0, 1, Place::Source)];
+    trial.stands(lane(1, 2, 1), &left);
+}
+
+/// Node 0 takes that credit in the second turn, in which node 1 gives none.
+#[test]
+fn a_credit_is_taken_in_the_next_turn(rt: HostRuntime) {
+    let mut trial = two_lanes(rt);
+    trial.takes_turns(0, 2);
+    trial.answers([take_credit(0, 1)], Ok(Moved::Idle));
+}
+
+/// After the fourth turn the arbiter stands at the lower input port again: of two more words its own goes first.
+#[test]
+fn an_arbiter_comes_back_to_the_lower_port(rt: HostRuntime) {
+    let mut trial = two_lanes(rt);
+    trial.offer_at(4, lane(0, 2, 0), &[5]);
+    trial.offer_at(4, lane(1, 2, 1), &[6]);
+    trial.takes_turns(0, 5);
+    trial.has_words(2, &[1, 3, 2, 4, 5]);
 }
 
 /// Against the order of the nodes a flit gets one link far in a turn.
