@@ -129,6 +129,7 @@ const LIMITS_OF_A_NETWORK: &[(&[u8], usize, &str, Told)] = &[
         "class data channels 9",
         Some((5, Why::Range)),
     ),
+    (THREE_BY_TWO, 5, "class  channels 1", Some((5, Why::Name))),
     (THREE_BY_TWO, 5, "class abcdefghijklmnop channels 1", None),
     (
         THREE_BY_TWO,
@@ -142,8 +143,17 @@ const LIMITS_OF_A_NETWORK: &[(&[u8], usize, &str, Told)] = &[
     (MOST_IN_THREE, 3, "radix 4 5 13", Some((3, Why::Range))),
 ];
 
-/// Texts of as many classes and channels as there may be, each with one more, and what the reader says of them.
+/// Texts of no class, of as many classes and channels as there may be, each with one more, and what the reader says of
+/// them.
 const CLASSES: &[(&str, Told)] = &[
+    (
+        "wormnet 1\nradix 2\ndims 1\ndepth 2\nend\n",
+        Some((5, Why::Missing)),
+    ),
+    (
+        "wormnet 2\ndims 1\nradix 2\ndepth 2\nend\n",
+        Some((5, Why::Missing)),
+    ),
     (
         "wormnet 1\nradix 2\ndims 1\ndepth 2\nclass a\nclass b\nclass c\nclass d\nend\n",
         None,

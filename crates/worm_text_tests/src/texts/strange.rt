@@ -4,7 +4,7 @@ use crate::cases::{Told, is_told, joined, network_fault, traffic_fault};
 use std::alloc::Global;
 use std::process::Abort;
 use std::test::Fail;
-use worm_cases::{THREE_BY_TWO, TWO_NODES, TWO_WORDS};
+use worm_cases::{THREE_BY_TWO, TWO_NODES, TWO_WORDS, WORD_AND_MARK};
 use worm_text::Why;
 
 /// The text with a byte more at this place.
@@ -33,12 +33,12 @@ fn uneven_why(line: u32, field: u32) -> Why {
     }
 }
 
-/// The same of the text of two words.
+/// The same of traffic.
 fn traffic_why(line: u32, field: u32) -> Why {
     match (line, field) {
         (1, _) => Why::Header,
         (_, 0) => Why::UnknownWord,
-        (2, 4) => Why::Name,
+        (_, 4) => Why::Name,
         (_, _) => Why::Number,
     }
 }
@@ -80,9 +80,9 @@ fn network_with_byte(alloc: Global, text: &[u8], at: usize, byte: u8) -> Result<
     Ok(network_fault(text.as_slice()))
 }
 
-/// What the reader says of the text of two words with the byte there.
-fn traffic_with_byte(alloc: Global, at: usize, byte: u8) -> Result<Told, Fail> {
-    let text = with_byte(alloc, TWO_WORDS, at, byte)?;
+/// What the reader says of traffic of two nodes with the byte there.
+fn traffic_with_byte(alloc: Global, text: &[u8], at: usize, byte: u8) -> Result<Told, Fail> {
+    let text = with_byte(alloc, text, at, byte)?;
     traffic_fault(alloc, TWO_NODES, text.as_slice())
 }
 
@@ -104,10 +104,10 @@ fn uneven_has_no(rt: &impl Abort, alloc: Global, byte: u8) -> Result<(), Fail> {
     Ok(())
 }
 
-/// No field of the text of two words has this byte.
-fn traffic_has_no(rt: &impl Abort, alloc: Global, byte: u8) -> Result<(), Fail> {
-    for (at, line, field) in borders(alloc, TWO_WORDS)? {
-        let told = traffic_with_byte(alloc, at, byte)?;
+/// No field of the traffic of two nodes has this byte.
+fn traffic_has_no(rt: &impl Abort, alloc: Global, text: &[u8], byte: u8) -> Result<(), Fail> {
+    for (at, line, field) in borders(alloc, text)? {
+        let told = traffic_with_byte(alloc, text, at, byte)?;
         is_told_at(rt, told, Some((line, traffic_why(line, field))), byte, at);
     }
     Ok(())
@@ -118,7 +118,8 @@ fn bytes_that_no_field_has(rt: HostRuntime) -> Result<(), Fail> {
     for byte in [0u8, 13, 255] {
         network_has_no(&rt, rt.alloc(), byte)?;
         uneven_has_no(&rt, rt.alloc(), byte)?;
-        traffic_has_no(&rt, rt.alloc(), byte)?;
+        traffic_has_no(&rt, rt.alloc(), TWO_WORDS, byte)?;
+        traffic_has_no(&rt, rt.alloc(), WORD_AND_MARK, byte)?;
     }
     Ok(())
 }
