@@ -60,6 +60,17 @@ fn a_lane_has_65535_numbers(rt: HostRuntime) {
     closes(&rt, &mut fresh, lane(1, 0, 0), Err(OfferFault::LaneClosed));
 }
 
+/// Where a close has several faults the first is told: the lane's source, its destination, its class, and then that the
+/// class has two channels.
+#[test]
+fn faults_of_a_close_come_in_order(rt: HostRuntime) {
+    let mut wide = source_of(&rt, rt.alloc(), 0, &[2]);
+    closes(&rt, &mut wide, lane(1, 2, 1), Err(OfferFault::WrongSource));
+    closes(&rt, &mut wide, lane(0, 2, 1), Err(OfferFault::NoSuchNode));
+    closes(&rt, &mut wide, lane(0, 1, 1), Err(OfferFault::NoSuchClass));
+    closes(&rt, &mut wide, lane(0, 1, 0), Err(OfferFault::ManyChannels));
+}
+
 /// The sink takes the flit.
 fn takes(rt: &impl Abort, sink: &mut Sink, flit: Flit)
     requires { flit.lane.dst ≡ sink.old.node }
