@@ -64,11 +64,34 @@ fn see_cut(alloc: Global, net: &Net, stops: &[Stop], src: u8) -> Seen
     }
 }
 
-/// The same of each of sixteen nodes.
+/// Nothing of the lane was delivered or is under way.
+fn see_empty(alloc: Global, net: &Net, lane: Lane) -> Seen {
+    match view(alloc, net, lane) {
+        Ok((view, seen)) => seen.only_if(view.delivered == 0 && view.underway.is_empty()),
+        Err(seen) => seen,
+    }
+}
+
+/// The same of each lane from one of sixteen nodes, but that to the node opposite.
+fn others_empty(alloc: Global, net: &Net, src: u8) -> Seen
+    requires { src < 16 }
+{
+    let across = 15 - src;
+    let mut seen = Seen::Whole;
+    for dst in 0u8..16 {
+        if dst != across {
+            seen = seen.and(see_empty(alloc, net, lane(src, dst)));
+        }
+    }
+    seen
+}
+
+/// Each lane of sixteen nodes is cut: those to the nodes opposite have what was sent, the others nothing.
 fn all_cut(alloc: Global, net: &Net, stops: &[Stop]) -> Seen {
     let mut seen = Seen::Whole.only_if(net.nodes() == 16);
     for src in 0u8..16 {
         seen = seen.and(see_cut(alloc, net, stops, src));
+        seen = seen.and(others_empty(alloc, net, src));
     }
     seen
 }
@@ -129,15 +152,7 @@ fn run_again<R: Threads + Wait + Sync>(rt: &R, alloc: Global, net: Net, script: 
     }
 }
 
-/// Nothing of the lane was delivered or is under way.
-fn see_empty(alloc: Global, net: &Net, lane: Lane) -> Seen {
-    match view(alloc, net, lane) {
-        Ok((view, seen)) => seen.only_if(view.delivered == 0 && view.underway.is_empty()),
-        Err(seen) => seen,
-    }
-}
-
-/// The same of each lane of sixteen nodes.
+/// Nothing of any lane of sixteen nodes was delivered or is under way.
 fn all_empty(alloc: Global, net: &Net) -> Seen {
     let mut seen = Seen::Whole.only_if(net.nodes() == 16);
     for src in 0u8..16 {
