@@ -4,7 +4,6 @@ pub mod StepMoves
 pub mod TotalsUnderWay
 pub mod NetWays
 pub mod Lifting
-pub mod NetRests
 pub mod Determined
 pub mod ViewLists
 pub mod LanePlaces

@@ -1,6 +1,5 @@
 pub mod Headline
 pub mod StepMoves
-pub mod NetRests
 pub mod LaneView
 pub mod LaneSet
 pub mod Acceptable

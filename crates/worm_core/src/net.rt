@@ -7,7 +7,6 @@ ghost use Rattle.worm_region.specs.Answers.{Answers, ArbitersStand, AsksSource};
 ghost use Rattle.worm_region.specs.declared.step.Moved.TheVariants.{Idle};
 ghost use Rattle.worm_theory.specs.Steps.{empty};
 ghost use Rattle.worm_region.specs.NewNet.{IsConfig, IsFresh};
-ghost use Rattle.worm_core.specs.NetRests.{NetRests};
 ghost use Rattle.worm_core.specs.Headline.{DeliversInOrder, NothingFollowsMarks};
 ghost use Rattle.worm_core.specs.StepMoves.{MovesOneLane};
 ghost use Rattle.worm_region.specs.State.{IsNet, shape, network_of, queue_of, sink_at, source_at, texts_of};
@@ -27,20 +26,16 @@ use worm_term::{Sink, Source};
 #[derive(Drop)]
 pub struct Net {
     region: Region,
-    /// Whether it is known that a turn without entries changes nothing.
-    rests: bool,
 }
 
 impl Model for Net {
-    ghost use Rattle.std.specs.Prelude.{◌*◌};
-    ghost use Rattle.worm_core.specs.NetRests.{KnowsNetRests};
     ghost use Rattle.worm_region.specs.State.{NetState, IsNet};
 
     ghost Value = { NetState };
 
     ghost view = { λ n. n.region };
 
-    ghost invariant = { λ n. IsNet n.region × KnowsNetRests n.region n.rests };
+    ghost invariant = { λ n. IsNet n.region };
 }
 
 /// How far a run of steps came.
@@ -89,7 +84,7 @@ impl Net {
         ensures same { result ≡ self }
         ensures sound { IsNet self }
     {
-        let Net { region, rests: _ } = self;
+        let Net { region } = self;
         region
     }
 
@@ -98,10 +93,7 @@ impl Net {
         requires { IsNet region }
         ensures { result ≡ region }
     {
-        Net {
-            region,
-            rests: false,
-        }
+        Net { region }
     }
 
     /// The number of nodes.
@@ -177,22 +169,7 @@ impl Net {
         // Arbiters are for turns alone.
         ensures pointers { ArbitersStand self.old self.new }
     {
-        self.rests = false;
         self.region.step(step)
-    }
-
-    /// Whether it is known that a turn without entries changes nothing, or found: only where no flit is under way are
-    /// the nodes asked, since credits travel on. The flits are counted here, so that the turns behind it, and a drain
-    /// that asks after each, know their number until a packet is offered.
-    fn finds_rest(&mut self) -> bool
-        ensures rests { IsTrue result → NetRests self.old }
-        ensures same { self.new ≡ self.old }
-    {
-        if self.rests {
-            return true;
-        }
-        self.region.count_under_way();
-        self.region.fabric().under_way() == Some(0) && self.region.all_rest()
     }
 
     /// The turns of all nodes with these entries, in rising number.
@@ -200,10 +177,6 @@ impl Net {
         ensures exact { Turn entries.now self.old (result_err result) self.new }
         ensures reaches { Reaches self.old self.new }
     {
-        self.rests = entries.is_empty() && self.finds_rest();
-        if self.rests {
-            return Ok(());
-        }
         self.region.all_turns(entries)
     }
 

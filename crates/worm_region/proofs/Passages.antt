@@ -178,21 +178,3 @@ turns_more script n a b c fault before at =
 -- a passage that changes nothing
 pub does_still : (P : Passage) (a : NetState) → P a None a → Does P a None a
 does_still P a still = record { exact = still; reaches = reached a }
-
--- numbers more that change nothing
-pub loop_past : (P : ℕ → Passage) (k n : ℕ) (a b : NetState) → Does (Each P (range_with_len 0 n)) a None b →
-    ((i : ℕ) → n ≤ i → i < n + k → P i b None b) → Does (Each P (range_with_len 0 (n + k))) a None b
-loop_past P zero n a b done still =
-    let same : n ≡ n + zero = omega arith in subst (λ (m : ℕ). Does (Each P (range_with_len 0 m)) a None b) same done
-loop_past P (suc k) n a b done still =
-    let more = loop_more P n a b b None done (does_still (P n) b (still n (omega arith) (omega arith))) in
-    let same : (n + 1) + k ≡ n + suc k = omega arith in
-    subst (λ (m : ℕ). Does (Each P (range_with_len 0 m)) a None b) same
-    (loop_past P k (n + 1) a b more (λ i above below. still i (omega arith) (omega arith)))
-
-pub loop_on : (P : ℕ → Passage) (n m : ℕ) (a b : NetState) → n ≤ m → Does (Each P (range_with_len 0 n)) a None b →
-    ((i : ℕ) → n ≤ i → i < m → P i b None b) → Does (Each P (range_with_len 0 m)) a None b
-loop_on P n m a b less done still =
-    let same : n + (m - n) ≡ m = omega arith in
-    subst (λ (i : ℕ). Does (Each P (range_with_len 0 i)) a None b) same
-    (loop_past P (m - n) n a b done (λ i above below. still i above (omega arith)))

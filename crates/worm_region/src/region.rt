@@ -232,7 +232,7 @@ impl Region {
     }
 
     /// Counts the flits under way where their number is not known.
-    pub fn count_under_way(&mut self)
+    pub(crate) fn count_under_way(&mut self)
         ensures { self.new ≡ self.old }
     {
         let classes = self.fabric.classes();

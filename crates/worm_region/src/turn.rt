@@ -1,6 +1,6 @@
 //! The turn of a node, and the turns of all nodes in rising number.
 
-ghost use Rattle.std.specs.Prelude.{ℕ, List, [], ◌≡◌, ◌<◌, ◌*◌, Option, None, Some, IsTrue, true, false, length, sum};
+ghost use Rattle.std.specs.Prelude.{List, [], ◌≡◌, ◌<◌, ◌*◌, Option, None, Some, true, false, length, sum};
 ghost use Rattle.std.specs.Result.{result_err};
 ghost use Rattle.worm_mesh.specs.Address.{node_count};
 ghost use Rattle.worm_region.specs.Replies.{Attempts, Replies};
@@ -208,20 +208,6 @@ impl Region {
         self.node_passes(node)
     }
 
-    /// Whether each node is at rest, asked up to the first that is not. Where all are this may not be found.
-    pub fn all_rest(&mut self) -> bool
-        ensures passes { IsTrue result → (x : ℕ) → x < node_count self.old.mesh →
-            NodePassesBy Attempts x self.old None self.old }
-        ensures same { self.new ≡ self.old }
-    {
-        for node in 0..self.nodes() {
-            if !self.rests(node as u8) {
-                return false;
-            }
-        }
-        true
-    }
-
     /// The turns of all nodes with these entries, in rising number, where these are the nodes that they ask.
     fn turns_of(&mut self, entries: &Due<'_>, asked: &[bool; 256]) -> Result<(), StepFault>
         requires asked { AreMarked entries.now asked.now }
@@ -240,8 +226,10 @@ impl Region {
         requires { self.old.own ≡ sole }
         ensures { Does (ForEach all_nodes (NodeTurnBy Attempts entries.now)) self.old (result_err result) self.new }
     {
-        // Few turns have an entry, and 256 marks are not made for the others.
+        // Few turns have an entry: for the others 256 marks are not made, and what is under way is counted, since a drain
+        // asks for it after each.
         if entries.is_empty() {
+            self.count_under_way();
             return self.turns_of(entries, &NOBODY);
         }
         self.turns_of(entries, &sources_of(entries))

@@ -14,10 +14,10 @@ use Rattle.worm_core.proofs.net.Net.step.Goals.{After-step}
 answered : (c : goal.After-step) → IsNet c.step.new.self
     × Answers c.self.inside.region (event_of c.args.step.now) c.step.result c.step.new.self
 answered c = net_answers c.self.inside.region c.step.new.self
-    (event_of c.args.step.now) c.step.result c.self.invariant.0 c.step.ensures.replies
+    (event_of c.args.step.now) c.step.result c.self.invariant c.step.ensures.replies
 
 pub invariant_of-self : goal.invariant_of-self
-invariant_of-self c = ((answered (goal.at.invariant_of-self c).After-step).0, λ known. absurd (cc))
+invariant_of-self c = (answered (goal.at.invariant_of-self c).After-step).0
 
 pub returns-clause-answers : goal.returns-clause-answers
 returns-clause-answers c =
@@ -27,7 +27,7 @@ returns-clause-answers c =
 pub returns-clause-moves : goal.returns-clause-moves
 returns-clause-moves c =
     subst (λ (s : NetState). MovesOneLane s (event_of c.args.step.now) c.step.result c.step.new.self) c.self.view_is
-    (moves_one_lane c.self.inside.region c.step.new.self (event_of c.args.step.now) c.step.result c.self.invariant.0
+    (moves_one_lane c.self.inside.region c.step.new.self (event_of c.args.step.now) c.step.result c.self.invariant
     (answered (goal.at.returns-clause-moves c).After-step).1)
 
 pub returns-clause-sound : goal.returns-clause-sound
@@ -44,4 +44,4 @@ returns-clause-pointers c =
     (answered (goal.at.returns-clause-pointers c).After-step).1)
 
 pub step-requires : goal.step-requires
-step-requires c = c.self.invariant.0.all_owned
+step-requires c = c.self.invariant.all_owned
