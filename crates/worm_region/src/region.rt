@@ -263,18 +263,8 @@ impl Region {
         accepted(self.fabric.source_mut(node).close(lane))
     }
 
-    /// A Feed: the next flit of the class goes from the node's source into its injection buffer.
-    pub(crate) fn feed(&mut self, node: u8, class: u8) -> Result<Moved, StepFault>
-        ensures { Replies self.old (Event.Feed node class) result self.new }
-    {
-        if !self.fabric.has_node(node) || class >= self.fabric.classes() {
-            return Err(StepFault::NoSuchPlace);
-        }
-        Ok(moved(self.feed_there(node, class)))
-    }
-
-    /// The same where the node and the class are there.
-    pub(crate) fn feed_there(&mut self, node: u8, class: u8) -> bool
+    /// A Feed: the next flit of the class goes from the node's source into its injection buffer. Whether it did.
+    pub(crate) fn feed(&mut self, node: u8, class: u8) -> bool
         requires node { node < node_count self.old.mesh }
         requires class { class < length self.old.channels }
         ensures { Replies self.old (Event.Feed node class) (Ok (moved_of result)) self.new }
@@ -284,17 +274,7 @@ impl Region {
     }
 
     /// A Route: the opening flit at the front of the input channel's buffer finds its output port.
-    fn route(&mut self, node: u8, port: u8, vc: u8) -> Result<Moved, StepFault>
-        ensures { Replies self.old (Event.Route node port vc) result self.new }
-    {
-        if !self.fabric.has_place(node, port, vc) {
-            return Err(StepFault::NoSuchPlace);
-        }
-        Ok(moved(self.route_there(node, port, vc)))
-    }
-
-    /// The same where the place is there.
-    pub(crate) fn route_there(&mut self, node: u8, port: u8, vc: u8) -> bool
+    pub(crate) fn route(&mut self, node: u8, port: u8, vc: u8) -> bool
         requires { IsThere (shape self.old) (Event.Route node port vc) }
         ensures { Replies self.old (Event.Route node port vc) (Ok (moved_of result)) self.new }
     {
@@ -302,30 +282,18 @@ impl Region {
     }
 
     /// A Grant: the packet that waits at the input channel gets the output channel `out_vc` of its port.
-    fn grant(&mut self, node: u8, port: u8, vc: u8, out_vc: u8) -> Result<Moved, StepFault>
-        ensures { Replies self.old (Event.Grant node port vc out_vc) result self.new }
+    fn grant(&mut self, node: u8, port: u8, vc: u8, out_vc: u8) -> bool
+        requires { IsThere (shape self.old) (Event.Grant node port vc out_vc) }
+        ensures { Replies self.old (Event.Grant node port vc out_vc) (Ok (moved_of result)) self.new }
     {
-        if !self.fabric.has_place(node, port, vc) || out_vc >= self.fabric.vcs() {
-            return Err(StepFault::NoSuchPlace);
-        }
-        Ok(moved(self.fabric.router_mut(node).grant(port, vc, out_vc)))
+        self.fabric.router_mut(node).grant(port, vc, out_vc)
     }
 
-    /// A Send, where all nodes are owned: the flit at the front of the input channel's buffer leaves.
-    fn send(&mut self, node: u8, port: u8, vc: u8) -> Result<Moved, StepFault>
-        requires { self.old.own ≡ sole }
-        ensures { Replies self.old (Event.Send node port vc) result self.new }
-    {
-        if !self.fabric.has_place(node, port, vc) {
-            return Err(StepFault::NoSuchPlace);
-        }
-        self.send_there(node, port, vc)
-    }
-
-    /// A Send where the place is there: idle where no flit is ready, `NoMemory`, with nothing changed, where there is
-    /// none for a delivered flit. What leaves over a link stays among the nodes that are owned.
+    /// A Send: the flit at the front of the input channel's buffer leaves. Idle where no flit is ready, `NoMemory`, with
+    /// nothing changed, where there is none for a delivered flit. What leaves over a link stays among the nodes that are
+    /// owned.
     #[inline(always)]
-    pub fn send_there(&mut self, node: u8, port: u8, vc: u8) -> Result<Moved, StepFault>
+    pub fn send(&mut self, node: u8, port: u8, vc: u8) -> Result<Moved, StepFault>
         requires there { IsThere (shape self.old) (Event.Send node port vc) }
         requires within { IfSome (leaving (router_at self.old node) port vc)
             (λ out. EndsWithin (shape self.old) (owned self.old) node out.0) }
@@ -335,39 +303,27 @@ impl Region {
     }
 
     /// A Take: the front flit of the link into the port goes into its buffer.
-    pub(crate) fn take_flit(&mut self, node: u8, port: u8) -> Result<Moved, StepFault>
-        ensures { Replies self.old (Event.Take node port) result self.new }
-    {
-        if !self.fabric.has_link(node, port) {
-            return Err(StepFault::NoSuchPlace);
-        }
-        Ok(moved(self.take_flit_there(node, port)))
-    }
-
-    /// A Take where the port has a link.
-    pub(crate) fn take_flit_there(&mut self, node: u8, port: u8) -> bool
+    pub(crate) fn take_flit(&mut self, node: u8, port: u8) -> bool
         requires { IsSome (neighbour_of self.old.mesh node port) }
         ensures { Replies self.old (Event.Take node port) (Ok (moved_of result)) self.new }
     {
         self.fabric.take_flit(node, port)
     }
 
-    /// A GiveCredit, where all nodes are owned: a credit that the input channel owes goes onto its link.
-    fn give_credit(&mut self, node: u8, port: u8, vc: u8) -> Result<Moved, StepFault>
-        requires { self.old.own ≡ sole }
-        ensures { Replies self.old (Event.GiveCredit node port vc) result self.new }
+    /// A GiveCredit, where all nodes are owned: a credit that the input channel owes, if it owes one, goes onto its link.
+    fn give_credit(&mut self, node: u8, port: u8, vc: u8) -> bool
+        requires there { IsThere (shape self.old) (Event.GiveCredit node port vc) }
+        requires whole { self.old.own ≡ sole }
+        ensures { Replies self.old (Event.GiveCredit node port vc) (Ok (moved_of result)) self.new }
     {
-        if !self.fabric.has_link(node, port) || vc >= self.fabric.vcs() {
-            return Err(StepFault::NoSuchPlace);
-        }
         if self.fabric.node(node).router.owed_count(port, vc) == 0 {
-            return Ok(Moved::Idle);
+            return false;
         }
         self.give_owed(node, port, vc);
-        Ok(Moved::Done)
+        true
     }
 
-    /// A GiveCredit where the channel is there and owes a credit: its port then has a link.
+    /// A GiveCredit where the channel owes a credit: its port then has a link.
     #[inline(always)]
     pub fn give_owed(&mut self, node: u8, port: u8, vc: u8)
         requires channel { vc < sum self.old.channels }
@@ -379,21 +335,36 @@ impl Region {
     }
 
     /// A TakeCredit: the front credit of the link out of the port goes to its channel's count.
-    pub(crate) fn take_credit(&mut self, node: u8, port: u8) -> Result<Moved, StepFault>
-        ensures { Replies self.old (Event.TakeCredit node port) result self.new }
-    {
-        if !self.fabric.has_link(node, port) {
-            return Err(StepFault::NoSuchPlace);
-        }
-        Ok(moved(self.take_credit_there(node, port)))
-    }
-
-    /// A TakeCredit where the port has a link.
-    pub(crate) fn take_credit_there(&mut self, node: u8, port: u8) -> bool
+    pub(crate) fn take_credit(&mut self, node: u8, port: u8) -> bool
         requires { IsSome (neighbour_of self.old.mesh node port) }
         ensures { Replies self.old (Event.TakeCredit node port) (Ok (moved_of result)) self.new }
     {
         self.fabric.take_credit(node, port)
+    }
+
+    /// Whether the step's place is there: its node, and the port, the channels and the class that it names; of a Take, a
+    /// GiveCredit and a TakeCredit the link.
+    #[tactic(auto, unfolding(crate::specs::Shape::net_shape), using(crate::proofs::LinkedPorts::port_there))]
+    fn has(&self, step: &Step) -> bool
+        ensures { IsTrue result ↔ IsThere (shape self.now) (event_of step.now) }
+    {
+        let fabric = &self.fabric;
+        match step {
+            Step::Offer { node, packet: _ } => fabric.has_node(*node),
+            Step::Close { node, lane: _ } => fabric.has_node(*node),
+            Step::Feed { node, class } => fabric.has_node(*node) && *class < fabric.classes(),
+            Step::Route { node, port, vc } => fabric.has_place(*node, *port, *vc),
+            Step::Grant {
+                node,
+                port,
+                vc,
+                out_vc,
+            } => fabric.has_place(*node, *port, *vc) && *out_vc < fabric.vcs(),
+            Step::Send { node, port, vc } => fabric.has_place(*node, *port, *vc),
+            Step::Take { node, port } => fabric.has_link(*node, *port),
+            Step::GiveCredit { node, port, vc } => fabric.has_link(*node, *port) && *vc < fabric.vcs(),
+            Step::TakeCredit { node, port } => fabric.has_link(*node, *port),
+        }
     }
 
     /// One step (Dally and Towles, chapters 13 and 16), where all nodes are owned. `Done` where it was enabled, `Idle`
@@ -407,21 +378,24 @@ impl Region {
         ensures replies { Replies self.old (event_of step.now) result self.new }
         ensures asked { AsksSource (event_of step.now) → result ≡ Ok Idle → ⊥ }
     {
+        if !self.has(step) {
+            return Err(StepFault::NoSuchPlace);
+        }
         match step {
             Step::Offer { node, packet } => self.offer(*node, packet),
             Step::Close { node, lane } => self.close(*node, *lane),
-            Step::Feed { node, class } => self.feed(*node, *class),
-            Step::Route { node, port, vc } => self.route(*node, *port, *vc),
+            Step::Send { node, port, vc } => self.send(*node, *port, *vc),
+            Step::Feed { node, class } => Ok(moved(self.feed(*node, *class))),
+            Step::Route { node, port, vc } => Ok(moved(self.route(*node, *port, *vc))),
             Step::Grant {
                 node,
                 port,
                 vc,
                 out_vc,
-            } => self.grant(*node, *port, *vc, *out_vc),
-            Step::Send { node, port, vc } => self.send(*node, *port, *vc),
-            Step::Take { node, port } => self.take_flit(*node, *port),
-            Step::GiveCredit { node, port, vc } => self.give_credit(*node, *port, *vc),
-            Step::TakeCredit { node, port } => self.take_credit(*node, *port),
+            } => Ok(moved(self.grant(*node, *port, *vc, *out_vc))),
+            Step::Take { node, port } => Ok(moved(self.take_flit(*node, *port))),
+            Step::GiveCredit { node, port, vc } => Ok(moved(self.give_credit(*node, *port, *vc))),
+            Step::TakeCredit { node, port } => Ok(moved(self.take_credit(*node, *port))),
         }
     }
 }

@@ -77,7 +77,7 @@ impl Region {
         let mut left = self.credits_in(node);
         while let Some(port) = left.pop_first() {
             self.recall();
-            let _moved = self.take_credit_there(node, port);
+            let _moved = self.take_credit(node, port);
             self.recall();
         }
     }
@@ -90,7 +90,7 @@ impl Region {
         let mut left = self.flits_in(node);
         while let Some(port) = left.pop_first() {
             self.recall();
-            let _moved = self.take_flit_there(node, port);
+            let _moved = self.take_flit(node, port);
             self.recall();
         }
     }
@@ -103,7 +103,7 @@ impl Region {
         let mut left = self.unfed(node);
         while let Some(class) = left.pop_first() {
             self.recall();
-            let _fed = self.feed_there(node, class);
+            let _fed = self.feed(node, class);
             self.recall();
         }
     }
@@ -116,7 +116,7 @@ impl Region {
         let mut unrouted = self.unrouted(node);
         while let Some((port, vc)) = unrouted.pop_first() {
             self.recall();
-            let _moved = self.route_there(node, port, vc);
+            let _moved = self.route(node, port, vc);
             self.recall();
         }
     }
@@ -132,7 +132,7 @@ impl Region {
         self.recall();
         let mut left = granted;
         while let Some((port, vc)) = left.pop_first() {
-            tried(self.send_there(node, port, vc))?;
+            tried(self.send(node, port, vc))?;
         }
         Ok(())
     }

@@ -182,7 +182,7 @@ impl Part {
         ensures same { IsSamePart self.old self.new }
     {
         self.region.recall();
-        tried(self.region.send_there(node, port, vc))
+        tried(self.region.send(node, port, vc))
     }
 
     /// Whether the link out of the port leads to another worker's node.

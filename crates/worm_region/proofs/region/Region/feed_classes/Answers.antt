@@ -14,20 +14,20 @@ loop-class-init c =
     let set = c.unfed-left in
     covered_start (classes c.args.node) c.args.self.now set.result set.ensures.sound set.ensures.classes
 
-pub feed_there-fed-requires-clause-node : goal.feed_there-fed-requires-clause-node
-feed_there-fed-requires-clause-node c =
+pub feed-fed-requires-clause-node : goal.feed-fed-requires-clause-node
+feed-fed-requires-clause-node c =
     subst (λ (m : List ℕ). c.args.node < node_count m) (sym c.loop-class.invariant.done.does.reaches.config.mesh)
     c.requires
 
-pub feed_there-fed-requires-clause-class : goal.feed_there-fed-requires-clause-class
-feed_there-fed-requires-clause-class c =
+pub feed-fed-requires-clause-class : goal.feed-fed-requires-clause-class
+feed-fed-requires-clause-class c =
     let inv = c.loop-class.invariant in
     subst (λ (counts : List ℕ). c.in-Some.class < length counts) (sym inv.done.does.reaches.config.channels)
     (walked_place inv (number_taken c.in-Some.ensures).was_in).1
 
 pub loop-class-preserved : goal.loop-class-preserved
 loop-class-preserved c =
-    let fed = c.feed_there-fed in
+    let fed = c.feed-fed in
     let answer = Ok (moved_of fed.result) in
     let s = c.loop-class.self in
     let x = c.args.node in

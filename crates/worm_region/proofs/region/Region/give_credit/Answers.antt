@@ -1,48 +1,43 @@
-use Rattle.std.proofs.Common.{◌≡◌, ◌<◌, Ok, ap, arith, refl, subst, sym, ◌∙◌, false}
+use Rattle.std.proofs.Common.{◌≡◌, ◌<◌, Ok, ap, arith, inr, subst, sym, ◌∙◌, false}
 use Rattle.worm_theory.specs.Steps.{GiveCredit, IsThere}
-use Rattle.worm_router.specs.Router.{input_at}
+use Rattle.worm_router.specs.Router.{IsPlace, input_at}
 use Rattle.worm_region.specs.Shape.{net_shape}
 use Rattle.worm_region.specs.State.{NetState, router_at, shape}
 use Rattle.worm_region.specs.Replies.{Replies}
 use Rattle.worm_region.specs.Answers.{moved_of}
 use Rattle.worm_region.proofs.GiveAgrees.{gave_none}
 use Rattle.worm_node.specs.declared.node.Node.{Node}
-use Rattle.worm_region.proofs.LinkedPorts.{port_there}
+use Rattle.worm_region.proofs.PlacesThere.{place_inside}
 use Rattle.worm_region.proofs.AllOwned.{all_within}
 use Rattle.worm_region.proofs.region.Region.give_credit.Goals as goal
 use Rattle.worm_region.proofs.region.Region.give_credit.Goals.{After-owed_count}
-use Rattle.worm_region.proofs.region.Region.give_credit.Goals.{then-not-has_link-via-then-not-has_link}
-use Rattle.worm_region.proofs.region.Region.give_credit.Goals.{
-  then-not-has_link-via-else-not-has_link+then-vc-vcs,
-}
 
-pub returns-then-not-has_link : goal.returns-then-not-has_link
-unfolding net_shape
-returns-then-not-has_link c = (
-  subst (λ (s : NetState). IsThere (shape s) (GiveCredit c.args.node c.args.port c.args.vc) → ⊥) c.self.view_is
-      (λ there. elim c.then-not-has_link.branch [
-        | then-not-has_link-via-then-not-has_link w ↦
-            let found = c.has_link.ensures.1 there.1 in let missing = w.if-not-has_link.true in absurd (cc)
-        | then-not-has_link-via-else-not-has_link+then-vc-vcs w ↦
-            let past = w.if-vc-vcs.true in absurd (omega (arith, there.2, w.vcs.ensures))
-      ]),
-  refl,
-)
-
--- where the step is
+-- where the step is, in the network inside too
 there : (c : goal.After-owed_count) → IsThere (shape c.self.inside.fabric)
     (GiveCredit c.args.node c.args.port c.args.vc)
-unfolding net_shape
 there c =
-    let line = port_there c.self.inside.fabric.mesh c.args.node c.args.port
-    (c.has_link.ensures.0 c.if-not-has_link.false) in
-    let few = c.if-vc-vcs.false in
-    (line.0, line.1, omega (arith, c.vcs.ensures))
+    subst (λ (s : NetState). IsThere (shape s) (GiveCredit c.args.node c.args.port c.args.vc)) (sym c.self.view_is)
+    c.requires.there
 
 -- what the channel owes
 owed : (c : goal.After-owed_count)
     → c.owed_count.result ≡ (input_at (router_at c.self.inside.fabric c.args.node) c.args.port c.args.vc).owed
 owed c = c.owed_count.ensures ∙ ap (λ (n : Node). (input_at n.router c.args.port c.args.vc).owed) c.node.ensures
+
+pub node-requires : goal.node-requires
+node-requires c =
+    (place_inside _ c.args.self.now c.args.node c.args.port c.args.vc c.self.view_is c.self.invariant.framed
+    (c.requires.there.0, inr c.requires.there.1, c.requires.there.2)).node_in
+
+pub owed_count-requires : goal.owed_count-requires
+owed_count-requires c =
+    subst (λ (n : Node). IsPlace n.router c.args.port c.args.vc) (sym c.node.ensures)
+    (place_inside _ c.args.self.now c.args.node c.args.port c.args.vc c.self.view_is c.self.invariant.framed
+    (c.requires.there.0, inr c.requires.there.1, c.requires.there.2)).place
+
+pub give_owed-requires-clause-channel : goal.give_owed-requires-clause-channel
+unfolding net_shape
+give_owed-requires-clause-channel c = c.requires.there.2
 
 pub returns-then-owed_count-eq0 : goal.returns-then-owed_count-eq0
 unfolding net_shape
@@ -61,4 +56,4 @@ give_owed-requires-clause-owed c =
     subst (λ (s : NetState). 0 < (input_at (router_at s c.args.node) c.args.port c.args.vc).owed) c.self.view_is some
 
 pub give_owed-requires-clause-within : goal.give_owed-requires-clause-within
-give_owed-requires-clause-within c = all_within c.args.self.now c.args.node c.args.port c.requires
+give_owed-requires-clause-within c = all_within c.args.self.now c.args.node c.args.port c.requires.whole

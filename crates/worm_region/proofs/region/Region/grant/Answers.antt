@@ -1,73 +1,59 @@
-use Rattle.std.proofs.Common.{◌≡◌, ◌∙◌, Ok, ap, is_some, refl, subst, sym, Bool, arith}
-use Rattle.worm_router.specs.Router.{RouterState, after_grant, can_grant}
+use Rattle.std.proofs.Common.{◌≡◌, ◌<◌, ◌∙◌, ℕ, Ok, ap, is_some, subst, sym, Bool}
+use Rattle.worm_router.specs.Router.{IsPlace, RouterState, after_grant, can_grant, width}
 use Rattle.worm_theory.specs.Steps.{Grant, IsThere}
-use Rattle.worm_region.specs.Shape.{net_shape}
 use Rattle.worm_region.specs.State.{NetState, router_at, shape, with_router}
 use Rattle.worm_region.specs.Replies.{Replies}
 use Rattle.worm_region.specs.Answers.{moved_of}
 use Rattle.worm_region.specs.Workable.{IsWorkable}
 use Rattle.worm_region.proofs.GrantAgrees.{grant_answers}
-use Rattle.worm_region.proofs.ReachedBySteps.{still_workable}
+use Rattle.worm_region.proofs.PlacesThere.{place_inside}
+use Rattle.worm_region.proofs.ReachedBySteps.{answered_inside}
 use Rattle.worm_region.proofs.region.Region.grant.Goals as goal
-use Rattle.worm_region.proofs.region.Region.grant.Goals.{After-grant, then-not-has_place-via-then-not-has_place}
-use Rattle.worm_region.proofs.region.Region.grant.Goals.{then-not-has_place-via-else-not-has_place+then-out_vc-vcs}
 
-pub returns-then-not-has_place : goal.returns-then-not-has_place
-unfolding net_shape
-returns-then-not-has_place c = (
-  subst (λ (s : NetState). IsThere (shape s) (Grant c.args.node c.args.port c.args.vc c.args.out_vc) → ⊥)
-      c.self.view_is
-      (λ there. elim c.then-not-has_place.branch [
-        | then-not-has_place-via-then-not-has_place w ↦
-            let found = c.has_place.ensures.1 (there.0, there.1, there.2) in
-            let missing = w.if-not-has_place.true in
-            absurd (cc)
-        | then-not-has_place-via-else-not-has_place+then-out_vc-vcs w ↦
-            let past = w.if-out_vc-vcs.true in absurd (omega (arith, there.3, w.vcs.ensures))
-      ]),
-  refl,
-)
+pub router_mut-requires : goal.router_mut-requires
+router_mut-requires c =
+    (place_inside _ c.args.self.now c.args.node c.args.port c.args.vc c.self.view_is c.self.invariant.framed
+    (c.requires.0, c.requires.1, c.requires.2)).node_in
 
--- where the step is
-there : (c : goal.After-grant) → IsThere (shape c.self.inside.fabric)
-    (Grant c.args.node c.args.port c.args.vc c.args.out_vc)
-unfolding net_shape
-there c = let place = c.has_place.ensures.0 c.if-not-has_place.false in (
-  place.0,
-  place.1,
-  place.2,
-  let few = c.if-out_vc-vcs.false in omega (arith, c.vcs.ensures),
-)
+pub grant-requires-clause-place : goal.grant-requires-clause-place
+grant-requires-clause-place c =
+    subst (λ (r : RouterState). IsPlace r c.args.port c.args.vc) (sym c.router_mut.ensures.value)
+    (place_inside _ c.args.self.now c.args.node c.args.port c.args.vc c.self.view_is c.self.invariant.framed
+    (c.requires.0, c.requires.1, c.requires.2)).place
 
-made : (c : goal.After-grant) → IsWorkable (with_router c.self.inside.fabric c.args.node c.grant.new.self)
-    × Replies c.self.inside.fabric (Grant c.args.node c.args.port c.args.vc c.args.out_vc)
-    (Ok (moved_of c.grant.result))
-    (with_router c.self.inside.fabric c.args.node c.grant.new.self)
-made c =
-    let s = c.self.inside.fabric in
-    let a = grant_answers s c.args.node c.args.port c.args.vc c.args.out_vc c.self.invariant (there c) in
-    let after : c.grant.new.self ≡ after_grant (router_at s c.args.node) c.args.port c.args.vc c.args.out_vc =
-    c.grant.ensures.after
-    ∙ ap (λ (r : RouterState). after_grant r c.args.port c.args.vc c.args.out_vc) c.router_mut.ensures.value in
-    let enabled : c.grant.result ≡ is_some (can_grant (router_at s c.args.node) c.args.port c.args.vc c.args.out_vc) =
-    c.grant.ensures.enabled
-    ∙ ap (λ (r : RouterState). is_some (can_grant r c.args.port c.args.vc c.args.out_vc)) c.router_mut.ensures.value in
-    let t = with_router s c.args.node (after_grant (router_at s c.args.node) c.args.port c.args.vc c.args.out_vc) in
-    let step = Grant c.args.node c.args.port c.args.vc c.args.out_vc in
-    let answer = Ok (moved_of (is_some (can_grant (router_at s c.args.node) c.args.port c.args.vc c.args.out_vc))) in
-    let done : IsWorkable t × Replies s step (Ok (moved_of c.grant.result)) t =
-    subst (λ (b : Bool). IsWorkable t × Replies s step (Ok (moved_of b)) t) (sym enabled)
-    (still_workable s t step answer a, a.1) in
-    subst (λ (r : RouterState). IsWorkable (with_router s c.args.node r)
-    × Replies s step (Ok (moved_of c.grant.result)) (with_router s c.args.node r)) (sym after) done
+pub grant-requires-clause-out_channel : goal.grant-requires-clause-out_channel
+grant-requires-clause-out_channel c =
+    subst (λ (r : RouterState). c.args.out_vc < width r) (sym c.router_mut.ensures.value)
+    (place_inside _ c.args.self.now c.args.node c.args.port c.args.out_vc c.self.view_is c.self.invariant.framed
+    (c.requires.0, c.requires.1, c.requires.3)).place.channel_in
+
+-- what it leaves, and what its answer means, where the router was lent and the network is seen
+made : (s now : NetState) (x p v o : ℕ) (lent left : RouterState) (done : Bool) → s ≡ now → IsWorkable s
+    → IsThere (shape now) (Grant x p v o) → lent ≡ router_at s x → done ≡ is_some (can_grant lent p v o)
+    → left ≡ after_grant lent p v o
+    → IsWorkable (with_router s x left)
+    × Replies now (Grant x p v o) (Ok (moved_of done)) (with_router s x left)
+made s now x p v o lent left done same works there lent_is enabled left_is =
+    let step = Grant x p v o in
+    let inside : IsThere (shape s) step = subst (λ (t : NetState). IsThere (shape t) step) (sym same) there in
+    let t = with_router s x (after_grant (router_at s x) p v o) in
+    let granted = is_some (can_grant (router_at s x) p v o) in
+    let found : done ≡ granted = enabled ∙ ap (λ (r : RouterState). is_some (can_grant r p v o)) lent_is in
+    let is : left ≡ after_grant (router_at s x) p v o =
+    left_is ∙ ap (λ (r : RouterState). after_grant r p v o) lent_is in
+    subst (λ (r : RouterState). IsWorkable (with_router s x r)
+    × Replies now step (Ok (moved_of done)) (with_router s x r)) (sym is)
+    (subst (λ (b : Bool). IsWorkable t × Replies now step (Ok (moved_of b)) t) (sym found)
+    (answered_inside s now t step (Ok (moved_of granted)) same (grant_answers s x p v o works inside)))
 
 pub invariant_of-self : goal.invariant_of-self
-invariant_of-self c = (made (goal.at.invariant_of-self c).After-grant).0
+invariant_of-self c =
+    (made c.self.inside.fabric c.args.self.now c.args.node c.args.port c.args.vc c.args.out_vc
+    c.router_mut.result.now c.grant.new.self c.grant.result c.self.view_is c.self.invariant c.requires
+    c.router_mut.ensures.value c.grant.ensures.enabled c.grant.ensures.after).0
 
 pub returns : goal.returns
 returns c =
-    let moved : Replies c.self.inside.fabric (Grant c.args.node c.args.port c.args.vc c.args.out_vc) (Ok c.moved.result)
-    (with_router c.self.inside.fabric c.args.node c.grant.new.self) = rw c.moved.ensures
-    (made (goal.at.returns c).After-grant).1 in
-    subst (λ (s : NetState). Replies s (Grant c.args.node c.args.port c.args.vc c.args.out_vc) (Ok c.moved.result)
-    (with_router c.self.inside.fabric c.args.node c.grant.new.self)) c.self.view_is moved
+    (made c.self.inside.fabric c.args.self.now c.args.node c.args.port c.args.vc c.args.out_vc
+    c.router_mut.result.now c.grant.new.self c.grant.result c.self.view_is c.self.invariant c.requires
+    c.router_mut.ensures.value c.grant.ensures.enabled c.grant.ensures.after).1

@@ -11,12 +11,12 @@ loop-port-init c =
     routed_start c.args.node c.args.self.now set.result c.requires set.ensures.sound set.ensures.routes
     set.ensures.there
 
-pub route_there-moved-requires : goal.route_there-moved-requires
-route_there-moved-requires c = first_there c.loop-port.invariant c.in-Some.ensures
+pub route-moved-requires : goal.route-moved-requires
+route-moved-requires c = first_there c.loop-port.invariant c.in-Some.ensures
 
 pub loop-port-preserved : goal.loop-port-preserved
 loop-port-preserved c =
-    let moved = c.route_there-moved in
+    let moved = c.route-moved in
     let answer = Ok (moved_of moved.result) in
     let s = c.loop-port.self in
     let x = c.args.node in

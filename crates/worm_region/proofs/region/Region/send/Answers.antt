@@ -1,23 +1,37 @@
-use Rattle.std.proofs.Common.{refl, subst}
-use Rattle.worm_theory.specs.Steps.{Send, IsThere}
-use Rattle.worm_region.specs.Shape.{net_shape}
-use Rattle.worm_region.specs.State.{NetState, shape}
-use Rattle.worm_region.proofs.AllOwned.{sends_within}
+use Rattle.worm_region.specs.Replies.{Replies}
+use Rattle.worm_region.specs.Workable.{IsWorkable}
+use Rattle.worm_region.proofs.SendTried.{IsTried, is_tried}
+use Rattle.worm_theory.specs.Steps.{Send}
 use Rattle.worm_region.proofs.region.Region.send.Goals as goal
+use Rattle.worm_region.proofs.region.Region.send.Goals.{After-self}
 
-pub returns-then-not-has_place : goal.returns-then-not-has_place
-unfolding net_shape
-returns-then-not-has_place c = (
-  subst (λ (s : NetState). IsThere (shape s) (Send c.args.node c.args.port c.args.vc) → ⊥) c.self.view_is
-      (λ there. let found = c.has_place.ensures.1 there in let missing = c.if-not-has_place.true in absurd (cc)),
-  refl,
-)
+tried : (c : goal.After-self) → IsTried c.self.inside.fabric c.args.self.now c.args.node c.args.port c.args.vc
+tried c =
+    is_tried c.self.inside.fabric c.args.self.now c.args.node c.args.port c.args.vc c.self.view_is c.self.invariant
+    c.requires.there c.requires.within
 
-pub send_there-requires-clause-there : goal.send_there-requires-clause-there
-unfolding net_shape
-send_there-requires-clause-there c =
-    subst (λ (s : NetState). IsThere (shape s) (Send c.args.node c.args.port c.args.vc)) c.self.view_is
-    (c.has_place.ensures.0 c.if-not-has_place.false)
+pub send-requires-clause-place : goal.send-requires-clause-place
+send-requires-clause-place c = (tried (goal.at.send-requires-clause-place c).After-self).place
 
-pub send_there-requires-clause-within : goal.send_there-requires-clause-within
-send_there-requires-clause-within c = sends_within c.args.self.now c.args.node c.args.port c.args.vc c.requires
+pub send-requires-clause-terminal : goal.send-requires-clause-terminal
+send-requires-clause-terminal c = (tried (goal.at.send-requires-clause-terminal c).After-self).terminal
+
+pub send-requires-clause-way : goal.send-requires-clause-way
+send-requires-clause-way c = (tried (goal.at.send-requires-clause-way c).After-self).way
+
+pub send-requires-clause-sink : goal.send-requires-clause-sink
+send-requires-clause-sink c = (tried (goal.at.send-requires-clause-sink c).After-self).sink
+
+-- what it leaves, and what its answer means
+answered : (c : goal.After-send)
+    → IsWorkable c.send.new.self
+    × Replies c.args.self.now (Send c.args.node c.args.port c.args.vc) c.send.result c.send.new.self
+answered c =
+    (tried (goal.at.returns c).After-self).answers c.send.result c.send.new.self
+    c.send.ensures
+
+pub invariant_of-self : goal.invariant_of-self
+invariant_of-self c = (answered c).0
+
+pub returns : goal.returns
+returns c = (answered c).1

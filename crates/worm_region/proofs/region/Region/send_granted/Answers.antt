@@ -16,8 +16,8 @@ loop-port-init c = λ grants _.
     sent_start c.args.node c.args.granted c.args.self.now c.recall.ensures c.requires.there
     (does_nothing c.args.self.now)
 
-pub send_there-requires-clause-there : goal.send_there-requires-clause-there
-send_there-requires-clause-there c =
+pub send-requires-clause-there : goal.send-requires-clause-there
+send-requires-clause-there c =
     let some = c.requires.granted in
     let sent = c.loop-port.invariant some.0 some.1 in
     let first = c.in-Some.ensures in
@@ -25,8 +25,8 @@ send_there-requires-clause-there c =
     sent.walked.done.reaches.config
     (c.requires.there c.in-Some.port c.in-Some.vc first.port_in first.channel_in (was_granted some.0 some.1 sent first))
 
-pub send_there-requires-clause-within : goal.send_there-requires-clause-within
-send_there-requires-clause-within c =
+pub send-requires-clause-within : goal.send-requires-clause-within
+send-requires-clause-within c =
     let sent = c.loop-port.invariant c.requires.granted.0 c.requires.granted.1 in
     sends_within c.loop-port.self c.args.node c.in-Some.port c.in-Some.vc
     (whole_after c.args.self.now c.loop-port.self sent.walked.done.reaches.config c.requires.whole)
@@ -38,10 +38,10 @@ loop-port-preserved c = λ grants are.
     let x = c.args.node in
     let a = c.args.self.now in
     let b = c.loop-port.self in
-    let answered = sent_by x grants c.in-Some.port c.in-Some.vc b c.send_there.new.self c.send_there.result None
-    (sent_grant grants are sent first) c.send_there.ensures c.in_ok-tried.ensures in
+    let answered = sent_by x grants c.in-Some.port c.in-Some.vc b c.send.new.self c.send.result None
+    (sent_grant grants are sent first) c.send.ensures c.in_ok-tried.ensures in
     sent_more grants are sent (sent_still x grants a b) first
-    (λ before. loop_more (λ p. Each Attempts (granted_send grants x p)) c.in-Some.port a b c.send_there.new.self None
+    (λ before. loop_more (λ p. Each Attempts (granted_send grants x p)) c.in-Some.port a b c.send.new.self None
     before answered)
 
 pub returns-in_err-tried : goal.returns-in_err-tried
@@ -52,12 +52,12 @@ returns-in_err-tried c = λ grants are.
     let a = c.args.self.now in
     let b = c.loop-port.self in
     let fault = c.in_err-tried.field-0.0 in
-    let answered = sent_by x grants c.in-Some.port c.in-Some.vc b c.send_there.new.self c.send_there.result (Some fault)
-    (sent_grant grants are sent first) c.send_there.ensures c.in_err-tried.ensures in
+    let answered = sent_by x grants c.in-Some.port c.in-Some.vc b c.send.new.self c.send.result (Some fault)
+    (sent_grant grants are sent first) c.send.ensures c.in_err-tried.ensures in
     let p = err_from_is_err_and c.from_residual.result c.from_residual.ensures.1 in
-    rw (p.1, p.2) (sends_all grants x a c.send_there.new.self (Some fault)
+    rw (p.1, p.2) (sends_all grants x a c.send.new.self (Some fault)
     (loop_cut (λ p. Each Attempts (granted_send grants x p)) c.in-Some.port (2 * length a.mesh + 1) a b
-    c.send_there.new.self fault (sent_place grants are sent first).1
+    c.send.new.self fault (sent_place grants are sent first).1
     (sent_to grants are sent (sent_still x grants a b) first) answered))
 
 pub returns : goal.returns

@@ -16,7 +16,7 @@ loop-port-init c =
 
 pub loop-port-preserved : goal.loop-port-preserved
 loop-port-preserved c =
-    let moved = c.take_credit_there-moved in
+    let moved = c.take_credit-moved in
     let answer = Ok (moved_of moved.result) in
     let s = c.loop-port.self in
     let x = c.args.node in
@@ -25,8 +25,8 @@ loop-port-preserved c =
     (does_quietly s moved.new.self (TakeCredit x p) answer refl (λ grows. grows) moved.ensures)
     (credit_elsewhere s moved.new.self x p answer c.recall.ensures moved.ensures) c.recall-in-Some.ensures
 
-pub take_credit_there-moved-requires : goal.take_credit_there-moved-requires
-take_credit_there-moved-requires c = first_linked c.loop-port.invariant c.in-Some.ensures
+pub take_credit-moved-requires : goal.take_credit-moved-requires
+take_credit-moved-requires c = first_linked c.loop-port.invariant c.in-Some.ensures
 
 pub returns : goal.returns
 returns c =

@@ -10,8 +10,8 @@ use Rattle.worm_split.proofs.Inside.{part_with_net}
 use Rattle.worm_split.proofs.Staying.{sends_within, sent_within}
 use Rattle.worm_split.proofs.part.Part.send_within.Goals as goal
 
-pub send_there-requires-clause-within : goal.send_there-requires-clause-within
-send_there-requires-clause-within c =
+pub send-requires-clause-within : goal.send-requires-clause-within
+send-requires-clause-within c =
     let i = c.self.inside in
     let p : PartState = part_state i.region i.ends.items i.opening.value i.lines.value.items in
     let here : owned p.net c.args.node ≡ true = (λ t. owned (c.self.view_is t).net c.args.node) ∙ c.requires.own in
@@ -27,8 +27,8 @@ invariant_of-self c =
     let here : owned p.net c.args.node ≡ true = (λ t. owned (c.self.view_is t).net c.args.node) ∙ c.requires.own in
     let stays = subst (λ (q : PartState). StaysWithin q c.args.node
     (leaving (router_at q.net c.args.node) c.args.port c.args.vc)) (sym c.self.view_is) c.requires.stays in
-    let made = sent_within p c.self.invariant.0 c.args.node here c.args.port c.args.vc c.send_there.new.self
-    c.recall.ensures.framed c.send_there.result stays c.send_there.ensures in (
-      part_with_net p c.self.invariant.0 c.send_there.new.self made.0 made.1,
+    let made = sent_within p c.self.invariant.0 c.args.node here c.args.port c.args.vc c.send.new.self
+    c.recall.ensures.framed c.send.result stays c.send.ensures in (
+      part_with_net p c.self.invariant.0 c.send.new.self made.0 made.1,
       subst (λ (w : Owner). IsKept i.opening.value w i.kept) (sym made.1.own) c.self.invariant.1,
     )
