@@ -289,9 +289,9 @@ impl Region {
         self.fabric.router_mut(node).grant(port, vc, out_vc)
     }
 
-    /// A Send: the flit at the front of the input channel's buffer leaves. Idle where no flit is ready, `NoMemory`, with
-    /// nothing changed, where there is none for a delivered flit. What leaves over a link stays among the nodes that are
-    /// owned.
+    /// A Send: the flit at the front of the input channel's buffer leaves. Idle where no flit is ready; `NoMemory`, and
+    /// nothing changed, where there is none for a delivered flit. What leaves over a link stays among the nodes that
+    /// are owned.
     #[inline(always)]
     pub fn send(&mut self, node: u8, port: u8, vc: u8) -> Result<Moved, StepFault>
         requires there { IsThere (shape self.old) (Event.Send node port vc) }
@@ -310,7 +310,7 @@ impl Region {
         self.fabric.take_flit(node, port)
     }
 
-    /// A GiveCredit, where all nodes are owned: a credit that the input channel owes, if it owes one, goes onto its link.
+    /// A GiveCredit, where all nodes are owned: a credit that the input channel owes, if any, goes onto its link.
     fn give_credit(&mut self, node: u8, port: u8, vc: u8) -> bool
         requires there { IsThere (shape self.old) (Event.GiveCredit node port vc) }
         requires whole { self.old.own ≡ sole }
@@ -342,8 +342,8 @@ impl Region {
         self.fabric.take_credit(node, port)
     }
 
-    /// Whether the step's place is there: its node, and the port, the channels and the class that it names; of a Take, a
-    /// GiveCredit and a TakeCredit the link.
+    /// Whether the step's place is there: its node, and the port, the channels and the class that it names; of a Take,
+    /// a GiveCredit and a TakeCredit the link.
     #[tactic(auto, unfolding(crate::specs::Shape::net_shape), using(crate::proofs::LinkedPorts::port_there))]
     fn has(&self, step: &Step) -> bool
         ensures { IsTrue result ↔ IsThere (shape self.now) (event_of step.now) }
@@ -362,7 +362,8 @@ impl Region {
             } => fabric.has_place(*node, *port, *vc) && *out_vc < fabric.vcs(),
             Step::Send { node, port, vc } => fabric.has_place(*node, *port, *vc),
             Step::Take { node, port } => fabric.has_link(*node, *port),
-            Step::GiveCredit { node, port, vc } => fabric.has_link(*node, *port) && *vc < fabric.vcs(),
+            Step::GiveCredit { node, port, vc } => fabric.has_link(*node, *port)
+                && *vc < fabric.vcs(),
             Step::TakeCredit { node, port } => fabric.has_link(*node, *port),
         }
     }
