@@ -71,7 +71,7 @@ fn start<'s, E, R: Threads + Wait + Sync, G: Gate + Sync>(
     ensures gate { IfOk result (λ child. child.promise.gate.now ≡ gate.now) }
     ensures worker { IfOk result (λ child. child.promise.worker ≡ vec_len parts.new) }
     ensures fewer { vec_len parts.new + 1 ≡ vec_len parts.old }
-    ensures refused { IfErr result (λ w. w < vec_len parts.old) }
+    ensures refused { IfErr result (λ w. w ≡ vec_len parts.new) }
     ensures room { vec_capacity parts.old ≤ vec_capacity parts.new }
 {
     let Some(part) = parts.pop() else {
