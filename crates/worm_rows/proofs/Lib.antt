@@ -5,3 +5,4 @@ pub mod Order
 pub mod Readings
 pub mod Loop
 pub mod Same
+pub mod NoWant

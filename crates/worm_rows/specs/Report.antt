@@ -1,5 +1,5 @@
 -- What a report's text is read as, line after line, and at which line it is refused.
-use Rattle.std.specs.Prelude.{◌≡◌, ℕ, suc, ◌+◌, ◌<◌, List, [], ◌∷◌, ◌++◌, length, Result, Ok, Err, ◌⊎◌, ◌==◌}
+use Rattle.std.specs.Prelude.{◌≡◌, ℕ, suc, ◌+◌, ◌<◌, ◌≤◌, List, [], ◌∷◌, ◌++◌, length, Result, Ok, Err, ◌⊎◌, ◌==◌}
 use Rattle.std.specs.Prelude.{if◌then◌else◌}
 use Rattle.worm_text.specs.declared.fault.Why.{Why}
 use Rattle.worm_text.specs.declared.fault.Why.TheVariants.{NoEnd, AfterEnd, NoMemory}
@@ -46,9 +46,10 @@ pub record IsReportFaultLine (s : Shape) (bytes : List ℕ) (line : ℕ) : Type 
   pub one_more : (before : ℕ) × (line ≡ before + 1) × BeginsReport s bytes before
   pub longest : (k : ℕ) → BeginsReport s bytes k → k < line
 
--- Memory ran out at the line of a row.
+-- Memory ran out at the line of a row, the first or a later one.
 pub record RanOut (s : Shape) (bytes : List ℕ) (fault : TextFault) : Type 0 where
   pub why : fault.why ≡ NoMemory
+  pub some : 1 ≤ fault.line
   pub line : BeginsReport s bytes fault.line
 
 -- A call answered this, seen by view, unless memory ran out.

@@ -1,4 +1,4 @@
-use Rattle.std.proofs.Common.{◌≡◌, List, [], ◌∷◌, ◌++◌, ◌+◌, Bool, true, false, cond, refl, inl, inr}
+use Rattle.std.proofs.Common.{◌≡◌, List, [], ◌∷◌, ◌++◌, ◌+◌, Bool, true, false, cond, refl, inl, inr, arith}
 use Rattle.std.specs.Prelude.{not, is_ok}
 use Rattle.worm_rows.specs.declared.rows.Row.{Row}
 use Rattle.worm_rows.specs.Rules.{behind}
@@ -23,8 +23,10 @@ returns-then-is_err c =
     let l = c.loop-front in
     let more = one_more c.args.shape.now l.standing l.rows.items l.line l.rest.now c.args.bytes.now c.in-Some.front.now
     c.in-Some.after.now c.in-Ok.row l.invariant c.in-Some.ensures.parts c.in-Ok.ensures in
+    let count = l.invariant.count in
     inl (record {
       why = refl;
+      some = omega arith;
       line = begun_well c.args.shape.now (behind l.standing c.in-Ok.row) (l.rows.items ++ c.in-Ok.row ∷ [])
           (l.line + 1) l.line c.in-Some.after.now c.args.bytes.now more refl;
     })
