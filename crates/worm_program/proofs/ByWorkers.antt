@@ -2,6 +2,7 @@
 use Rattle.std.proofs.Common.{◌≡◌, ◌≢◌, ◌||◌, ℕ, ◌+◌, ◌<◌, suc, inl, inr, Bool, true, false, List, [], ◌∷◌, ◌++◌}
 use Rattle.std.proofs.Common.{length, Some, None, Option, Ok, Err, refl, arith, sym, subst, ◌∙◌}
 use Rattle.std.specs.Prelude.{All, Result, MatchResult, if◌then◌else◌}
+use Rattle.std.specs.Io.KnownBytes.{Keeps}
 use Rattle.std.proofs.lemmas.List.Elements.{All-cons, All-head, All-nil, All-tail}
 use Rattle.worm_term.specs.declared.fault.OfferFault.{OfferFault}
 use Rattle.worm_theory.proofs.Places.{bool_cases}
@@ -22,7 +23,7 @@ use Rattle.worm_run.proofs.NeverRefused.{run_never_refuses}
 use Rattle.worm_text.specs.Network.{Network}
 use Rattle.worm_program.specs.declared.fault.ProgramFault.{ProgramFault}
 use Rattle.worm_program.specs.declared.fault.ProgramFault.TheVariants as f
-use Rattle.worm_program.specs.Programs.{Stream, WritesFront, WritesReport}
+use Rattle.worm_program.specs.Programs.{IsNotAccepted, Stream, WritesFront, WritesReport}
 use Rattle.worm_program.specs.Together.{DrainsUnstopped, EndsTogether, FailsTogether, IsReportOf, PartTogether}
 use Rattle.worm_program.specs.Together.{RanWhole, ReportsTogether, EndsUnrefused, IsNoRefusal}
 use Rattle.worm_program.specs.Together.{for_memory, lack_memory}
@@ -136,6 +137,19 @@ module _ (stop pass : ℕ → ℕ → Type 0) (script : List Entry) (plan : RunP
         by_gate = by_gate ran.end.stops.items so.not_refused
             (had_memory most ran.end.stops.items ran.end.net closing fault ran.drained had);
       }
+
+-- texts that were not accepted, of whose report nothing was written
+pub not_accepted : (stop pass : ℕ → ℕ → Type 0) (plan : RunPlan) (drain : ℕ) (out : Stream) (network traffic : List ℕ)
+    (fault : ProgramFault) → IsNotAccepted network traffic fault → Keeps out.old out.new
+    → FailsTogether stop pass plan drain out network traffic fault
+not_accepted stop pass plan drain out network traffic (f.Network t) is kept = (is, kept)
+not_accepted stop pass plan drain out network traffic (f.Traffic t) is kept = (is, kept)
+not_accepted stop pass plan drain out network traffic f.ReadNetwork is kept = absurd is
+not_accepted stop pass plan drain out network traffic f.ReadTraffic is kept = absurd is
+not_accepted stop pass plan drain out network traffic f.NoMemory is kept = inl (inl is, kept)
+not_accepted stop pass plan drain out network traffic f.Write is kept = absurd is
+not_accepted stop pass plan drain out network traffic f.Workers is kept = absurd is
+not_accepted stop pass plan drain out network traffic (f.NotStarted w) is kept = absurd is
 
 -- what was written of a report, and what is answered
 module _ (stop pass : ℕ → ℕ → Type 0) (network traffic : List ℕ) (plan : RunPlan) (drain : ℕ) (out : Stream)

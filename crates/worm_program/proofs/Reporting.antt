@@ -2,6 +2,7 @@
 use Rattle.std.proofs.Common.{◌≡◌, ◌≢◌, ◌++◌, ◌∙◌, ℕ, List, Some, None, Option, Ok, Err, inl, inr, refl, ap, subst, sym}
 use Rattle.std.proofs.Common.{append-nil}
 use Rattle.std.specs.Prelude.{Result, MatchResult, IsSome}
+use Rattle.std.specs.Io.KnownBytes.{Keeps}
 use Rattle.worm_script.specs.declared.entry.Entry.{Entry}
 use Rattle.worm_region.specs.declared.fault.StepFault.{StepFault}
 use Rattle.worm_region.specs.declared.fault.StepFault.TheVariants.{NoMemory as NoRoom}
@@ -18,8 +19,23 @@ use Rattle.worm_program.specs.declared.fault.ProgramFault.{ProgramFault}
 use Rattle.worm_program.specs.declared.fault.ProgramFault.TheVariants as f
 use Rattle.worm_program.specs.declared.turns.Ending.{Ending}
 use Rattle.worm_program.specs.Programs.{Stream, IsOneReport, IsReported, Reports, ReportsPart, whole_run, WritesFront}
-use Rattle.worm_program.specs.Programs.{Fails, WritesReport, WritesShort}
+use Rattle.worm_program.specs.Programs.{Fails, IsNotAccepted, WritesReport, WritesShort}
 use Rattle.worm_program.proofs.OneReport.{one_report}
+
+-- texts that were not accepted, of whose report nothing was written
+pub not_accepted : (network traffic : List ℕ) (turns drain : ℕ) (out : Stream) (fault : ProgramFault)
+    → IsNotAccepted network traffic fault → Keeps out.old out.new → Fails network traffic turns drain out fault
+not_accepted network traffic turns drain out (f.Network t) is kept = (is, kept)
+not_accepted network traffic turns drain out (f.Traffic t) is kept = (is, kept)
+not_accepted network traffic turns drain out f.ReadNetwork is kept = absurd is
+not_accepted network traffic turns drain out f.ReadTraffic is kept = absurd is
+not_accepted network traffic turns drain out f.NoMemory is kept = inl (
+  record { config = is.config; of_network = is.of_network; so_far = inr (is.line, is.so_far) },
+  kept,
+)
+not_accepted network traffic turns drain out f.Write is kept = absurd is
+not_accepted network traffic turns drain out f.Workers is kept = absurd is
+not_accepted network traffic turns drain out (f.NotStarted w) is kept = absurd is
 
 -- there was no memory for the report itself
 pub no_room : (out : Stream) (fault : Option StepFault) (bytes : List ℕ) (e : ReportFault) → e ≡ NoMemory

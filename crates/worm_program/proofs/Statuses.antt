@@ -23,6 +23,12 @@ pub of_ended : (s : ℕ) (ended : Result (Unit {0}) ProgramFault) → s ≡ ende
 of_ended s (Ok _) is = inl is
 of_ended s (Err fault) is = rw is (of_fault fault)
 
+-- words that are refused, or for which there is no memory
+pub of_refused : (s : ℕ) (fault : WordsFault) → s ≡ words_status fault → (s ≡ 2) ⊎ (s ≡ 6)
+of_refused s (w.Words error) is = inl is
+of_refused s w.NotText is = inl is
+of_refused s w.NoMemory is = inr is
+
 pub of_words : (s : ℕ) (fault : WordsFault) → s ≡ words_status fault → IsStatus s
 of_words s (w.Words error) is = rw is (between 2 (omega arith) (omega arith))
 of_words s w.NotText is = rw is (between 2 (omega arith) (omega arith))

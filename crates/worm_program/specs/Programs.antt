@@ -55,6 +55,14 @@ pub record RanOutOver (network traffic : List ℕ) : Type 0 where
   pub so_far : ((entries : List Said) × SaysTraffic config traffic entries)
       ⊎ ((line : ℕ) × IsEntryLine config traffic line)
 
+-- Memory ran out over the traffic text: the network text is accepted, and the traffic text's lines are up to that of an
+-- entry.
+pub record RanOutAtEntry (network traffic : List ℕ) : Type 0 where
+  pub config : Network
+  pub of_network : SaysNetwork network config
+  pub line : ℕ
+  pub so_far : IsEntryLine config traffic line
+
 -- one of the two texts is refused: the first fault of the network text, or, where that one is accepted, of the traffic
 -- text
 abbrev pub IsRefusedAs : List ℕ → List ℕ → ProgramFault → Type 0
@@ -75,7 +83,7 @@ IsNotAccepted network traffic (f.Network t) = IsRefusedAs network traffic (f.Net
 IsNotAccepted network traffic (f.Traffic t) = IsRefusedAs network traffic (f.Traffic t)
 IsNotAccepted network traffic f.ReadNetwork = ⊥
 IsNotAccepted network traffic f.ReadTraffic = ⊥
-IsNotAccepted network traffic f.NoMemory = RanOutOver network traffic
+IsNotAccepted network traffic f.NoMemory = RanOutAtEntry network traffic
 IsNotAccepted network traffic f.Write = ⊥
 IsNotAccepted network traffic f.Workers = ⊥
 IsNotAccepted network traffic (f.NotStarted w) = ⊥

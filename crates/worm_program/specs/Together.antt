@@ -29,7 +29,7 @@ use Rattle.worm_report.specs.Seen.{seen}
 use Rattle.worm_report.specs.Writing.{AreLines}
 use Rattle.worm_program.specs.declared.fault.ProgramFault.{ProgramFault}
 use Rattle.worm_program.specs.declared.fault.ProgramFault.TheVariants as f
-use Rattle.worm_program.specs.Programs.{FailsReading, GaveBoth, IsCutShort, IsRefusedAs, RanOutOver, SaysNetwork}
+use Rattle.worm_program.specs.Programs.{FailsReading, GaveBoth, IsCutShort, IsRefusedAs, RanOutAtEntry, SaysNetwork}
 use Rattle.worm_program.specs.Programs.{SaysTraffic, Stream, WritesFront}
 
 -- Stops
@@ -171,6 +171,12 @@ pub record HasNodes (Holds : ℕ → Type 0) (network traffic : List ℕ) : Type
   pub accepted : AreAccepted network traffic config script
   pub nodes : Holds (node_count config.radices)
 
+-- Memory ran out before the workers ran: at an entry of the traffic text, or where both texts are accepted and there
+-- are as many nodes. So want of memory hides neither a refused text nor too many workers.
+abbrev pub RanOutBefore : RunPlan → List ℕ → List ℕ → Type 0
+RanOutBefore plan network traffic =
+    RanOutAtEntry network traffic ⊎ HasNodes (λ nodes. plan.workers ≤ nodes) network traffic
+
 -- what a fault tells of two texts at hand
 abbrev pub FailsTogether : (may_stop may_pass : ℕ → ℕ → Type 0) → RunPlan → ℕ → Stream → List ℕ → List ℕ
     → ProgramFault → Type 0
@@ -183,7 +189,7 @@ FailsTogether may_stop may_pass plan drain out network traffic (f.Traffic t) =
 FailsTogether may_stop may_pass plan drain out network traffic f.ReadNetwork = ⊥
 FailsTogether may_stop may_pass plan drain out network traffic f.ReadTraffic = ⊥
 FailsTogether may_stop may_pass plan drain out network traffic f.NoMemory =
-    (RanOutOver network traffic × Keeps out.old out.new)
+    (RanOutBefore plan network traffic × Keeps out.old out.new)
     ⊎ ShortTogether may_stop may_pass network traffic plan drain out
 FailsTogether may_stop may_pass plan drain out network traffic (f.NotStarted w) =
     (w < plan.workers) × HasNodes (λ nodes. plan.workers ≤ nodes) network traffic × Keeps out.old out.new

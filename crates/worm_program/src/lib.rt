@@ -8,8 +8,11 @@
 //! says of it is judged without the code of all that lies below.
 #![tactic(auto)]
 
-ghost use Rattle.std.specs.Prelude.{◌≡◌};
+ghost use Rattle.clap.specs.Walk.{texts};
+ghost use Rattle.clap.specs.Words.{fault_of};
+ghost use Rattle.std.specs.Prelude.{◌≡◌, ◌≢◌, ◌<◌, ◌⊎◌, [], length};
 ghost use Rattle.std.specs.Process.{exit_status};
+ghost use Rattle.worm_program.specs.Commands.{command};
 ghost use Rattle.worm_program.specs.Faults.{ended_status, words_status, IsStatus};
 ghost use Rattle.worm_program.specs.Ranges.{InRange};
 
@@ -90,13 +93,17 @@ fn refuse<R: Print + Eprint>(rt: &R, fault: WordsFault) -> ExitCode
 }
 
 /// Reads the words, the program's name first, and runs the program that they ask for.
+///
+/// Words that the parser's definition finds a fault in end with 2, or with 6 where memory ran out.
 #[tactic(auto, using(crate::proofs::Statuses::of_ended, crate::proofs::Statuses::of_words))]
 fn run_words<R: Files + Input + Print + Eprint + AllocGlobal, T: Threads + Wait + Sync>(
     rt: &R,
     threads: &T,
     words: &[&str],
 ) -> ExitCode
-    ensures { IsStatus (exit_status result) }
+    ensures status { IsStatus (exit_status result) }
+    ensures refused { 1 < length words.now → fault_of command (texts words.now) ≢ []
+        → (exit_status result ≡ 2) ⊎ (exit_status result ≡ 6) }
 {
     if words.len() < 2 {
         let mut input = rt.reader();

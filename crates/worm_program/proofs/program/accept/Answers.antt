@@ -15,6 +15,6 @@ returns-in-Err-read_traffic-clause-err c =
     let fault = c.in-Err-read_traffic.fault in
     let want : fault.why ≡ NoMemory = search rules in
     elim c.in-Err-read_traffic.ensures.exact [
-      | inl full ↦ record { config = config; of_network = says; so_far = inr (fault.line, full.1) }
+      | inl full ↦ record { config = config; of_network = says; line = fault.line; so_far = full.1 }
       | inr is ↦ absurd (no_want config c.args.traffic.now fault is want)
     ]

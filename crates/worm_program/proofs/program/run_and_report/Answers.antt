@@ -1,5 +1,6 @@
 use Rattle.std.proofs.Common.{ap, inl}
 use Rattle.std.proofs.KnownBytes.{Keeps-refl}
+use Rattle.std.proofs.lemmas.Result.{err_from_is_err_and}
 use Rattle.worm_text.specs.Network.{view}
 use Rattle.worm_text.specs.ScriptView.{said_of}
 use Rattle.worm_report.specs.Seen.{seen}
@@ -7,8 +8,16 @@ use Rattle.worm_report.specs.Report.{report}
 use Rattle.worm_program.specs.Programs.{stream}
 use Rattle.worm_core.proofs.NeverRefused.{never_refused}
 use Rattle.worm_program.proofs.Scripts.{accepted_script}
-use Rattle.worm_program.proofs.Reporting.{reported_so}
+use Rattle.worm_program.proofs.Reporting.{not_accepted, reported_so}
 use Rattle.worm_program.proofs.program.run_and_report.Goals as goal
+
+-- where the texts are not accepted
+pub returns-in_err-accepted : goal.returns-in_err-accepted
+returns-in_err-accepted g c =
+    let p = err_from_is_err_and c.from_residual.result c.from_residual.ensures.1 in
+    let out = g.W.Write.contents c.args.out.now in
+    rw (p.1, p.2) (not_accepted c.args.network.now c.args.traffic.now c.args.turns c.args.drain (stream out out)
+    c.in_err-accepted.field-0.0 c.in_err-accepted.ensures.err (Keeps-refl out))
 
 -- where there is no memory for the network
 pub returns-in_default : goal.returns-in_default

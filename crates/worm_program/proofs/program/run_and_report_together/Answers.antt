@@ -1,26 +1,41 @@
-use Rattle.std.proofs.Common.{ap, inl}
+use Rattle.std.proofs.Common.{◌≤◌, ap, inl, inr, rules, tests}
 use Rattle.std.proofs.KnownBytes.{Keeps-refl}
+use Rattle.std.proofs.lemmas.Result.{err_from_is_err_and}
+use Rattle.worm_mesh.specs.Address.{node_count}
 use Rattle.worm_report.specs.Seen.{seen}
 use Rattle.worm_report.specs.Report.{report}
 use Rattle.worm_text.specs.Network.{view}
-use Rattle.worm_text.specs.ScriptView.{said_of}
 use Rattle.worm_program.specs.Programs.{stream}
 use Rattle.worm_program.specs.Ranges.{plan_of}
 use Rattle.worm_program.specs.Together.{summary_with}
-use Rattle.worm_program.proofs.ByWorkers.{together_so}
+use Rattle.worm_program.proofs.ByWorkers.{not_accepted, together_so}
 use Rattle.worm_program.proofs.Scripts.{accepted_script}
 use Rattle.worm_program.proofs.program.run_and_report_together.Goals as goal
 
--- where there is no memory for the network
+-- where the texts are not accepted
+pub returns-in_err-accepted : goal.returns-in_err-accepted
+returns-in_err-accepted g c =
+    let p = err_from_is_err_and c.from_residual.result c.from_residual.ensures.1 in
+    let out = g.W.Write.contents c.args.out.now in
+    rw (p.1, p.2) (not_accepted (g.G.Gate.may_stop c.args.gate.now) (g.G.Gate.may_pass c.args.gate.now)
+    (plan_of c.args.options.now) c.args.options.now.drain (stream out out) c.args.network.now c.args.traffic.now
+    c.in_err-accepted.field-0.0 c.in_err-accepted.ensures.err (Keeps-refl out))
+
+-- where there is no memory for the network, which has the nodes
 pub returns-in_default : goal.returns-in_default
-returns-in_default g c = inl (
-  record {
-    config = view c.in_ok-accepted.accepted.config;
-    of_network = c.in_ok-accepted.ensures.network;
-    so_far = inl (said_of c.in_ok-accepted.accepted.script, c.in_ok-accepted.ensures.traffic);
-  },
-  Keeps-refl (g.W.Write.contents c.args.out.now),
-)
+returns-in_default g c =
+    let config = view c.in_ok-accepted.accepted.config in
+    let said = c.in_ok-accepted.ensures in
+    let nodes : c.args.options.now.workers ≤ node_count config.radices = search (rules, tests) in
+    inl (
+      inr record {
+        config = config;
+        script = c.in_ok-accepted.accepted.script;
+        accepted = record { of_network = said.network; of_traffic = said.traffic };
+        nodes = nodes;
+      },
+      Keeps-refl (g.W.Write.contents c.args.out.now),
+    )
 
 pub returns : goal.returns
 returns g c =
