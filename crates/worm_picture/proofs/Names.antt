@@ -21,7 +21,7 @@ use Rattle.worm_picture.specs.declared.ways.Way.TheVariants as way
 use Rattle.worm_picture.specs.Titles.{flit_title, load_title}
 use Rattle.worm_picture.specs.Ways.{way_path}
 use Rattle.worm_picture.specs.Nodes.{station_flits, view_flits}
-use Rattle.worm_picture.specs.Picture.{PicturesFlits, names, Names, name_of, flit_name, Adds, lacks}
+use Rattle.worm_picture.specs.Picture.{PicturesFlits, names, Names, flit_name, title_of, Adds, lacks}
 
 -- ---- texts that lack a character
 
@@ -32,10 +32,6 @@ lacks_head false l e = (refl, e)
 lacks_join : (k : ℕ) (a b : List ℕ) → lacks k a ≡ true → lacks k b ≡ true → lacks k (a ++ b) ≡ true
 lacks_join k [] b ha hb = hb
 lacks_join k (c ∷ a) b ha hb = let h = lacks_head (k == c) (lacks k a) ha in rw (h.0, lacks_join k a b h.1 hb) refl
-
-glyph_if : (k d : ℕ) (b : Bool) → nat_lt d 10 ≡ b → k < 48 → (k == cond b (48 + d) (87 + d)) ≡ false
-glyph_if k d true e h = grind (arith, nat_tests)
-glyph_if k d false e h = grind (arith, nat_tests)
 
 glyph_60 : (d : ℕ) (b : Bool) → nat_lt d 10 ≡ b → (60 == cond b (48 + d) (87 + d)) ≡ false
 glyph_60 d true e = grind (arith, nat_tests)
@@ -63,9 +59,6 @@ module _ (k : ℕ) (differs : (d : ℕ) → (k == digit_glyph false d) ≡ false
 
 no_tag : (d : ℕ) → (60 == digit_glyph false d) ≡ false
 no_tag d = glyph_60 d (nat_lt d 10) refl
-
-no_comma : (d : ℕ) → (44 == digit_glyph false d) ≡ false
-no_comma d = glyph_if 44 d (nat_lt d 10) refl (omega arith)
 
 -- ---- names
 
@@ -126,6 +119,9 @@ none_then r a b c h k = adds_then r a b c [] [] h k
 pub path : (w : Way) → Names (way_path w) []
 path (way.In core level) = number core _ [] (number level _ [] (λ rest. refl))
 path (way.Out core level to) = number core _ [] (number level _ [] (number to _ [] (last_number level)))
+path (way.Stub core bend knee level to) =
+    number core _ [] (number bend _ [] (number knee _ [] (number level _ [] (number to _ [] (last_number level)))))
+path (way.Sink x y) = number x _ [] (last_number y)
 
 load : (l : Load) → Names (load_title l) []
 load Close = λ rest. refl
@@ -138,110 +134,92 @@ arrival src class packet l = number src _ [] (number class _ [] (number packet _
 
 -- ---- a title
 
-up_to_comma : (w t : List ℕ) → lacks 44 w ≡ true → take_while (λ c. not (44 == c)) (w ++ 44 ∷ t) ≡ w
-up_to_comma [] t h = refl
-up_to_comma (c ∷ w) t h =
-    let e = lacks_head (44 == c) (lacks 44 w) h in
-    take_while-cons (λ c. not (44 == c)) c (w ++ 44 ∷ t) ∙ rw (e.0, up_to_comma w t e.1) refl
+up_to_tag : (w t : List ℕ) → lacks 60 w ≡ true → take_while (λ c. not (60 == c)) (w ++ 60 ∷ t) ≡ w
+up_to_tag [] t h = refl
+up_to_tag (c ∷ w) t h =
+    let e = lacks_head (60 == c) (lacks 60 w) h in
+    take_while-cons (λ c. not (60 == c)) c (w ++ 60 ∷ t) ∙ rw (e.0, up_to_tag w t e.1) refl
 
-module _ (k : ℕ) (differs : (d : ℕ) → (k == digit_glyph false d) ≡ false) (from : lacks k (codes "from ") ≡ true)
-    (to : lacks k (codes " to ") ≡ true)
-    (class : lacks k (codes " class ") ≡ true) (packet : lacks k (codes " packet ") ≡ true)
-    (flit : lacks k (codes " flit ") ≡ true) where
-  name_lacks : (p : PacketId) (i : ℕ) → lacks k (name_of p i) ≡ true
-  name_lacks p i =
-      lacks_join k (codes "from ") _ from (number_lacks k differs p.lane.src _
-      (lacks_join k (codes " to ") _ to (number_lacks k differs p.lane.dst _
-      (lacks_join k (codes " class ") _ class (number_lacks k differs p.lane.class _
-      (lacks_join k (codes " packet ") _ packet (number_lacks k differs p.number _
-      (lacks_join k (codes " flit ") _ flit (decimal_lacks k differs i)))))))))
-
--- a flit's title is its name, and how many there are of its packet
-titled : (t : FlitTitle) → flit_title t ≡ name_of t.packet t.index ++ (codes ", of 0 to " ++ decimal t.last)
-titled t =
+title_lacks : (t : FlitTitle) → lacks 60 (flit_title t) ≡ true
+title_lacks t =
     let p = t.packet in
-    let lane = p.lane in
-    let many = codes ", of 0 to " ++ decimal t.last in
-    let flit = codes " flit " ++ decimal t.index in
+    let last = codes ", of 0 to " ++ decimal t.last in
+    let flit = codes " flit " ++ (decimal t.index ++ last) in
     let packet = codes " packet " ++ (decimal p.number ++ flit) in
-    let class = codes " class " ++ (decimal lane.class ++ packet) in
-    let dst = codes " to " ++ (decimal lane.dst ++ class) in
-    sym (ap (λ l. codes "from " ++ l) (append_assoc (decimal lane.src) dst many
-    ∙ ap (λ l. decimal lane.src ++ (codes " to " ++ l)) (append_assoc (decimal lane.dst) class many
-    ∙ ap (λ l. decimal lane.dst ++ (codes " class " ++ l)) (append_assoc (decimal lane.class) packet many
-    ∙ ap (λ l. decimal lane.class ++ (codes " packet " ++ l)) (append_assoc (decimal p.number) flit many)))))
+    let class = codes " class " ++ (decimal p.lane.class ++ packet) in
+    let dst = codes " to " ++ (decimal p.lane.dst ++ class) in
+    lacks_join 60 (codes "from ") (decimal p.lane.src ++ dst) refl (number_lacks 60 no_tag p.lane.src dst
+    (lacks_join 60 (codes " to ") (decimal p.lane.dst ++ class) refl (number_lacks 60 no_tag p.lane.dst class
+    (lacks_join 60 (codes " class ") (decimal p.lane.class ++ packet) refl (number_lacks 60 no_tag p.lane.class packet
+    (lacks_join 60 (codes " packet ") (decimal p.number ++ flit) refl (number_lacks 60 no_tag p.number flit
+    (lacks_join 60 (codes " flit ") (decimal t.index ++ last) refl (number_lacks 60 no_tag t.index last
+    (lacks_join 60 (codes ", of 0 to ") (decimal t.last) refl (decimal_lacks 60 no_tag t.last)))))))))))
 
-pub title : (t : FlitTitle) → Names (codes "<g><title>" ++ (flit_title t ++ codes "</title>"))
-    (name_of t.packet t.index ∷ [])
+pub title : (t : FlitTitle) → Names (codes "<g><title>" ++ (flit_title t ++ codes "</title>")) (flit_title t ∷ [])
 title t rest =
-    let name = name_of t.packet t.index in
     let text = flit_title t in
-    let end = codes "</title>" ++ rest in
-    let many = codes ", of 0 to " ++ decimal t.last in
-    let taken : (text ++ codes "</title>") ++ rest ≡ name ++ (many ++ end) =
-    append_assoc text (codes "</title>") rest ∙ ap (λ l. l ++ end) (titled t) ∙ append_assoc name many end in
-    let named : take_while (λ c. not (44 == c)) ((text ++ codes "</title>") ++ rest) ≡ name =
-    ap (take_while (λ c. not (44 == c))) taken
-    ∙ up_to_comma name ((codes " of 0 to " ++ decimal t.last) ++ end)
-    (name_lacks 44 no_comma refl refl refl refl refl t.packet t.index) in
-    let tagless : lacks 60 text ≡ true =
-    subst (λ l. lacks 60 l ≡ true) (sym (titled t))
-    (lacks_join 60 name many (name_lacks 60 no_tag refl refl refl refl refl t.packet t.index)
-    (decimal_lacks 60 no_tag t.last)) in
+    let tagless = title_lacks t in
+    let named : take_while (λ c. not (60 == c)) ((text ++ codes "</title>") ++ rest) ≡ text =
+    ap (take_while (λ c. not (60 == c))) (append_assoc text (codes "</title>") rest)
+    ∙ up_to_tag text (codes "/title>" ++ rest) tagless in
     let others : names ((text ++ codes "</title>") ++ rest) ≡ names rest =
     word text (codes "</title>") [] tagless (λ rest. refl) rest in
-    ap (λ l. l ∷ names ((text ++ codes "</title>") ++ rest)) named ∙ ap (λ l. name ∷ l) others
+    ap (λ l. l ∷ names ((text ++ codes "</title>") ++ rest)) named ∙ ap (λ l. text ∷ l) others
 
 -- ---- flits one by one, and channel by channel
 
-pub one_flit_more : (i : ℕ) (d : Flit) (flits : List Flit) (a b c : Svg) → i < length flits
-    → Adds a b (map flit_name (take i flits)) → Adds b c (flit_name (get_or flits i d) ∷ [])
-    → Adds a c (map flit_name (take (i + 1) flits))
-one_flit_more i d flits a b c lt h k =
-    subst (λ l. Adds a c l) (sym (ap (map flit_name) (take_more flits i d lt)
-    ∙ map_push flit_name (take i flits) (get_or flits i d)))
-    (adds_both a b c (map flit_name (take i flits)) (flit_name (get_or flits i d) ∷ []) h k)
+pub one_flit_more : (tails : PacketId → ℕ) (last i : ℕ) (d : Flit) (flits : List Flit) (a b c : Svg)
+    → i < length flits → last ≡ tails (get_or flits i d).packet → Adds a b (map (flit_name tails) (take i flits))
+    → Adds b c (title_of last (get_or flits i d) ∷ []) → Adds a c (map (flit_name tails) (take (i + 1) flits))
+one_flit_more tails last i d flits a b c lt e h k =
+    let flit = get_or flits i d in
+    let named = map (flit_name tails) (take i flits) in
+    subst (λ l. Adds a c l) (sym (ap (map (flit_name tails)) (take_more flits i d lt)
+    ∙ map_push (flit_name tails) (take i flits) flit))
+    (adds_both a b c named (flit_name tails flit ∷ []) h (subst (λ n. Adds b c (title_of n flit ∷ [])) e k))
 
-pub one_part_more : {X : Type 0} (flits : X → List Flit) (i : ℕ) (d x : X) (xs : List X) (a b c : Svg) → i < length xs
-    → x ≡ get_or xs i d → Adds a b (map flit_name (flat_map flits (take i xs)))
-    → Adds b c (map flit_name (flits x)) → Adds a c (map flit_name (flat_map flits (take (i + 1) xs)))
-one_part_more flits i d x xs a b c lt e h k =
+pub one_part_more : {X : Type 0} (name : Flit → List ℕ) (flits : X → List Flit) (i : ℕ) (d x : X) (xs : List X)
+    (a b c : Svg) → i < length xs → x ≡ get_or xs i d → Adds a b (map name (flat_map flits (take i xs)))
+    → Adds b c (map name (flits x)) → Adds a c (map name (flat_map flits (take (i + 1) xs)))
+one_part_more name flits i d x xs a b c lt e h k =
     let more : flat_map flits (take (i + 1) xs) ≡ flat_map flits (take i xs) ++ flits x =
     ap (flat_map flits) (take_more xs i d lt) ∙ sym (flat_map_more flits [] (take i xs) (get_or xs i d))
     ∙ ap (λ y. flat_map flits (take i xs) ++ flits y) (sym e) in
-    subst (λ l. Adds a c l) (sym (ap (map flit_name) more
-    ∙ map-append flit_name (flat_map flits (take i xs)) (flits x)))
-    (adds_both a b c (map flit_name (flat_map flits (take i xs))) (map flit_name (flits x)) h k)
+    subst (λ l. Adds a c l) (sym (ap (map name) more
+    ∙ map-append name (flat_map flits (take i xs)) (flits x)))
+    (adds_both a b c (map name (flat_map flits (take i xs))) (map name (flits x)) h k)
 
-pub one_channel : {E : Type 0} (r : Result (Unit {0}) E) (a b c d e f : Svg) (s : Station) (held coming : List Flit)
+pub one_channel : {E : Type 0} (name : Flit → List ℕ) (r : Result (Unit {0}) E) (a b c d e f : Svg) (s : Station)
+    (held coming : List Flit)
     → held ≡ s.held.items → coming ≡ s.coming.items → Adds a b [] → Adds b c []
-    → Adds c d (map flit_name held) → Adds d e (map flit_name coming) → OnOk r (Adds e f [])
-    → OnOk r (Adds a f (map flit_name (station_flits s)))
-one_channel r a b c d e f s held coming eh ec turned slots front behind closed =
-    let us = map flit_name held in
-    let vs = map flit_name coming in
+    → Adds c d (map name held) → Adds d e (map name coming) → OnOk r (Adds e f [])
+    → OnOk r (Adds a f (map name (station_flits s)))
+one_channel name r a b c d e f s held coming eh ec turned slots front behind closed =
+    let us = map name held in
+    let vs = map name coming in
     let all = adds_both a d e us vs (adds_both a c d [] us (adds_both a b c [] [] turned slots) front) behind in
     subst (λ l. OnOk r (Adds a f l))
-    (append-nil (us ++ vs) ∙ sym (map-append flit_name held coming)
-    ∙ ap (map flit_name) (ap (λ l. l ++ coming) eh ∙ ap (λ l. s.held.items ++ l) ec))
+    (append-nil (us ++ vs) ∙ sym (map-append name held coming)
+    ∙ ap (map name) (ap (λ l. l ++ coming) eh ∙ ap (λ l. s.held.items ++ l) ec))
     (adds_then r a e f (us ++ vs) [] all closed)
 
-pub one_node : {E : Type 0} (r : Result (Unit {0}) E) (a b c d : Svg) (v : NodeView) (stations : List Station)
+pub one_node : {E : Type 0} (name : Flit → List ℕ) (r : Result (Unit {0}) E) (a b c d : Svg) (v : NodeView)
+    (stations : List Station)
     → stations ≡ v.stations.items → Adds a b []
-    → Adds b c (map flit_name (flat_map station_flits stations)) → OnOk r (Adds c d [])
-    → OnOk r (Adds a d (map flit_name (view_flits v)))
-one_node r a b c d v stations e opened added closed =
-    let us = map flit_name (flat_map station_flits stations) in
-    subst (λ l. OnOk r (Adds a d l)) (append-nil us ∙ ap (λ l. map flit_name (flat_map station_flits l)) e)
+    → Adds b c (map name (flat_map station_flits stations)) → OnOk r (Adds c d [])
+    → OnOk r (Adds a d (map name (view_flits v)))
+one_node name r a b c d v stations e opened added closed =
+    let us = map name (flat_map station_flits stations) in
+    subst (λ l. OnOk r (Adds a d l)) (append-nil us ∙ ap (λ l. map name (flat_map station_flits l)) e)
     (adds_then r a c d us [] (adds_both a b c [] us opened added) closed)
 
 -- ---- the whole
 
 -- what stands before the flits and what comes behind them names none
-pub pictures : (a b c d : Svg) (flits : List Flit) → string_bytes a.text ≡ [] → Adds a b []
-    → Adds b c (map flit_name flits) → Adds c d [] → PicturesFlits (string_bytes d.text) flits
-pictures a b c d flits empty front here behind =
-    let named = map flit_name flits in
+pub pictures : (tails : PacketId → ℕ) (a b c d : Svg) (flits : List Flit) → string_bytes a.text ≡ [] → Adds a b []
+    → Adds b c (map (flit_name tails) flits) → Adds c d [] → PicturesFlits (string_bytes d.text) tails flits
+pictures tails a b c d flits empty front here behind =
+    let named = map (flit_name tails) flits in
     let all = adds_both a c d named [] (adds_both a b c [] named front here) behind in
     let text : string_bytes d.text ≡ all.text ++ [] =
     all.added ∙ ap (λ l. l ++ all.text) empty ∙ sym (append-nil all.text) in

@@ -211,24 +211,24 @@ module _ (s : Shape) (rows : List Row) (tails : PacketId → ℕ) (flits : List 
 -- of the rows the packets' tails are known
 pub pictures_rows : (s : Shape) (rows : List Row) (packets : Packets) (views : List NodeView) (text : List ℕ)
     → ((packet : PacketId) → tail_in packets packet ≡ tail_of rows packet) → AreViews s rows (tail_in packets) views
-    → (IsReport s rows → IsPermutation (seen_flits s.mesh rows) (shown views)) → PicturesFlits text (shown views)
-    → PicturesRows s rows text
+    → (IsReport s rows → IsPermutation (seen_flits s.mesh rows) (shown views))
+    → PicturesFlits text (tail_in packets) (shown views) → PicturesRows s rows text
 pictures_rows s rows packets views text tails are once pictured =
     let same : tail_in packets ≡ tail_of rows = λ i packet. tails packet i in
     record {
       views = views;
       are_views = subst (λ (t : PacketId → ℕ). AreViews s rows t views) same are;
       once = once;
-      pictured = pictured;
+      pictured = subst (λ (t : PacketId → ℕ). PicturesFlits text t (shown views)) same pictured;
     }
 
 pub drawn_rows : {X E : Type 0} (bytes : X → List ℕ) (r : Result X E) (as_map : Bool) (s : Shape) (rows : List Row)
     (packets : Packets) (views drawn : List NodeView) → drawn ≡ views
     → ((packet : PacketId) → tail_in packets packet ≡ tail_of rows packet) → AreViews s rows (tail_in packets) views
     → (IsReport s rows → IsPermutation (seen_flits s.mesh rows) (shown views))
-    → IfOk r (λ text. PicturesFlits (bytes text) (shown drawn))
+    → IfOk r (λ text. PicturesFlits (bytes text) (tail_in packets) (shown drawn))
     → IfOk r (λ text. as_map ≡ false → PicturesRows s rows (bytes text))
 drawn_rows bytes (Ok text) as_map s rows packets views drawn same_views tails are once pictured =
     λ asked. pictures_rows s rows packets views (bytes text) tails are once
-    (subst (λ (l : List NodeView). PicturesFlits (bytes text) (shown l)) same_views pictured)
+    (subst (λ (l : List NodeView). PicturesFlits (bytes text) (tail_in packets) (shown l)) same_views pictured)
 drawn_rows bytes (Err e) as_map s rows packets views drawn same_views tails are once pictured = tt

@@ -1,5 +1,5 @@
 -- The flits of a picture, read off its text.
-use Rattle.std.specs.Prelude.{ℕ, ◌≡◌, Bool, not, ◌==◌, if◌then◌else◌, List, [], ◌∷◌, ◌++◌, drop, map, codes, decimal}
+use Rattle.std.specs.Prelude.{ℕ, ◌≡◌, Bool, not, ◌==◌, if◌then◌else◌, List, [], ◌∷◌, ◌++◌, drop, map, codes}
 use Rattle.std.specs.Prelude.{Option, Some, None, string_bytes, IsPermutation}
 use Rattle.std.specs.List.{starts_with, take_while, cons_option, list_all}
 use Rattle.worm_rows.specs.declared.rows.PacketId.{PacketId}
@@ -12,27 +12,26 @@ use Rattle.worm_picture.specs.Scene.{seen_flits}
 use Rattle.worm_picture.specs.declared.scene.Flit.{Flit}
 use Rattle.worm_picture.specs.declared.svg.Svg.{Svg}
 use Rattle.worm_picture.specs.declared.views.NodeView.{NodeView}
+use Rattle.worm_picture.specs.Titles.{flit_title}
 
--- A flit is an element that begins with its title, which names the flit up to a comma (44).
+-- A flit is an element that begins with its title, which names the flit. It ends at the next tag (60).
 abbrev pub name_at : List ℕ → Option (List ℕ)
 name_at text =
     if starts_with (λ a b. a == b) text (codes "<g><title>")
-    then Some (take_while (λ c. not (44 == c)) (drop 10 text)) else None
+    then Some (take_while (λ c. not (60 == c)) (drop 10 text)) else None
 
 -- the names of the flits of a text, in their order
 abbrev pub names : List ℕ → List (List ℕ)
 names [] = []
 names (c ∷ cs) = cons_option (name_at (c ∷ cs)) (names cs)
 
--- a flit's name: its lane, its packet and its place there
-abbrev pub name_of : PacketId → ℕ → List ℕ
-name_of packet index =
-    codes "from " ++ (decimal packet.lane.src ++ (codes " to " ++ (decimal packet.lane.dst
-    ++ (codes " class " ++ (decimal packet.lane.class ++ (codes " packet " ++ (decimal packet.number
-    ++ (codes " flit " ++ decimal index))))))))
+-- the title of a flit of a packet whose tail has this place
+abbrev pub title_of : ℕ → Flit → List ℕ
+title_of last f = flit_title (record { packet = f.packet; index = f.index; last = last })
 
-abbrev pub flit_name : Flit → List ℕ
-flit_name f = name_of f.packet f.index
+-- a flit's name: its lane, its packet, its place there and that of the packet's tail
+abbrev pub flit_name : (PacketId → ℕ) → Flit → List ℕ
+flit_name tails f = title_of (tails f.packet) f
 
 -- a text that names these, whatever follows
 abbrev pub Names : List ℕ → List (List ℕ) → Type 0
@@ -49,8 +48,8 @@ abbrev pub lacks : ℕ → List ℕ → Bool
 lacks k text = list_all (λ c. not (k == c)) text
 
 -- The text has these flits, one by one, in this order, and no others.
-abbrev pub PicturesFlits : List ℕ → List Flit → Type 0
-PicturesFlits text flits = names text ≡ map flit_name flits
+abbrev pub PicturesFlits : List ℕ → (PacketId → ℕ) → List Flit → Type 0
+PicturesFlits text tails flits = names text ≡ map (flit_name tails) flits
 
 -- Of all nodes the flits that a report shows, channel by channel, the front first, and no others: of a report all flits
 -- in buffers and on links, each once.
@@ -58,4 +57,4 @@ pub record PicturesRows (s : Shape) (rows : List Row) (text : List ℕ) : Type 0
   pub views : List NodeView
   pub are_views : AreViews s rows (tail_of rows) views
   pub once : IsReport s rows → IsPermutation (seen_flits s.mesh rows) (shown views)
-  pub pictured : PicturesFlits text (shown views)
+  pub pictured : PicturesFlits text (tail_of rows) (shown views)

@@ -8,3 +8,8 @@ way_path (way.In core level) = codes "M-" ++ (decimal core ++ (codes "," ++ (dec
 way_path (way.Out core level to) =
     codes "M0,0L" ++ (decimal core ++ (codes "," ++ (decimal level
     ++ (codes "L" ++ (decimal to ++ (codes "," ++ decimal level))))))
+way_path (way.Stub core bend knee level to) =
+    codes "M0,0L" ++ (decimal core ++ (codes "," ++ (decimal bend
+    ++ (codes "L" ++ (decimal knee ++ (codes "," ++ (decimal level
+    ++ (codes "L" ++ (decimal to ++ (codes "," ++ decimal level))))))))))
+way_path (way.Sink x y) = codes "M0,0L" ++ (decimal x ++ (codes "," ++ decimal y))

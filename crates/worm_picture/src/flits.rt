@@ -1,9 +1,10 @@
 //! The flits of a picture: each an element that begins with its title.
 
 ghost use Rattle.std.specs.Prelude.{[], ◌∷◌, map, OnOk};
-ghost use Rattle.worm_picture.specs.Picture.{Adds, flit_name, name_of};
+ghost use Rattle.worm_picture.specs.Packets.{tail_in};
+ghost use Rattle.worm_picture.specs.Picture.{Adds, flit_name, title_of};
+ghost use Rattle.worm_picture.specs.Titles.{flit_title};
 
-use crate::layout::SLOT;
 use crate::packets::{Packet, Packets};
 use crate::scene::Flit;
 use crate::signs::{colour_of, mark_of, shape_of};
@@ -14,34 +15,29 @@ use std::fmt::Write;
 
 /// The beginning of a flit, and what hovering over it says.
 fn add_title(svg: &mut Svg, title: FlitTitle) -> Result<(), AllocError>
-    ensures { OnOk result (Adds svg.old svg.new (name_of title.packet title.index ∷ [])) }
+    ensures { OnOk result (Adds svg.old svg.new (flit_title title ∷ [])) }
 {
     write!(svg.text, "<g><title>{title}</title>")
 }
 
-/// The shape of a flit with its middle there, in its packet's colour.
+/// The shape of a flit with its middle there, in its packet's colour and with its packet's mark.
 fn add_shape(svg: &mut Svg, index: u8, packet: Packet, x: u32, y: u32) -> Result<(), AllocError>
     ensures { OnOk result (Adds svg.old svg.new []) }
 {
+    let sign = packet.sign.unwrap_or(0);
     let shape = shape_of(index, packet.last);
-    let colour = colour_of(packet.sign.unwrap_or(0));
+    let colour = colour_of(sign);
+    let mark = mark_of(sign);
     write!(
         svg.text,
         "<use href=\"#{shape}\" x=\"-{x}\" y=\"{y}\" fill=\"{colour}\"/>"
-    )
-}
-
-/// The mark of a packet on a flit with its middle there.
-fn add_mark(svg: &mut Svg, packet: Packet, x: u32, y: u32) -> Result<(), AllocError>
-    ensures { OnOk result (Adds svg.old svg.new []) }
-{
-    let mark = mark_of(packet.sign.unwrap_or(0));
+    )?;
     write!(svg.text, "<use href=\"#{mark}\" x=\"-{x}\" y=\"{y}\"/>")
 }
 
 /// A flit with its middle there, and what hovering over it says.
 fn add_flit(svg: &mut Svg, flit: &Flit, packet: Packet, x: u32, y: u32) -> Result<(), AllocError>
-    ensures { OnOk result (Adds svg.old svg.new (flit_name flit.now ∷ [])) }
+    ensures { OnOk result (Adds svg.old svg.new (title_of packet.last flit.now ∷ [])) }
 {
     let title = FlitTitle {
         packet: flit.packet,
@@ -50,24 +46,25 @@ fn add_flit(svg: &mut Svg, flit: &Flit, packet: Packet, x: u32, y: u32) -> Resul
     };
     add_title(svg, title)?;
     add_shape(svg, flit.index, packet, x, y)?;
-    add_mark(svg, packet, x, y)?;
     svg.close()
 }
 
-/// Flits one behind the other, the first with its middle there.
+/// Flits one behind the other, so far apart, the first with its middle there.
 pub fn add_row(
     svg: &mut Svg,
     packets: &Packets,
     flits: &[Flit],
     first: u32,
     y: u32,
+    apart: u32,
 ) -> Result<(), AllocError>
-    ensures { OnOk result (Adds svg.old svg.new (map flit_name flits.now)) }
+    ensures { OnOk result (Adds svg.old svg.new (map (flit_name (tail_in packets.now)) flits.now)) }
 {
     let mut x = first;
     for flit in flits {
-        add_flit(svg, flit, packets.get(flit.packet), x, y)?;
-        x = x.saturating_add(SLOT);
+        let packet = packets.get(flit.packet);
+        add_flit(svg, flit, packet, x, y)?;
+        x = x.saturating_add(apart);
     }
     Ok(())
 }

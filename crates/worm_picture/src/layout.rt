@@ -11,17 +11,32 @@ const MARGIN: u32 = 20;
 /// The room between two nodes.
 const GAP: u32 = 30;
 
+/// What is added to it in three dimensions, for the stubs of the third and their numbers.
+const MORE: u32 = 30;
+
+/// The room between the core and the strips of the third dimension, for the ways out by it.
+pub const WAYS: u32 = 20;
+
+/// How far a stub of the third dimension stands out from its node.
+pub const STUB: u32 = 24;
+
+/// From the border of a node to the middle of the first flit on a link.
+pub const FIRST: u32 = 9;
+
 /// The width that the legend takes: no picture is narrower.
 pub const NARROWEST: u32 = 780;
 
 /// The room above a slice of three dimensions, for its name.
 pub const NAME: u32 = 30;
 
-/// The room above the mesh, in a small picture.
+/// The room for the heading, in a small picture.
 pub const HEADING: u32 = 64;
 
-/// The room below the mesh, in a small picture.
-pub const LEGEND: u32 = 194;
+/// The room for the legend below it, in a small picture.
+pub const LEGEND: u32 = 100;
+
+/// The room for a line of it more.
+pub const LINE: u32 = 20;
 
 /// The sizes of a node of the picture. A node is a square about its middle; its core is where flits pass from port to
 /// port; at each side of the core is a strip with the buffers of a port.
@@ -49,18 +64,19 @@ pub struct Layout {
 ghost use Rattle.std.specs.Prelude.{◌≤◌, ◌+◌, ◌*◌};
 
 impl Layout {
-    /// The sizes at so many channels, and buffers of this depth.
-    pub fn new(depth: u8, vcs: u8) -> Layout {
+    /// The sizes at so many channels, and buffers of this depth, in so many dimensions.
+    pub fn new(depth: u8, vcs: u8, dims: u8) -> Layout {
+        let third = u32::from(dims / 3);
         let long = SLOT * u32::from(depth);
         let wide = SLOT * u32::from(vcs);
         let core = wide + 4;
-        let half = core + long.max(wide) + MARGIN;
+        let half = core + long.max(wide + WAYS * third) + MARGIN;
         Layout {
             long,
             wide,
             core,
             half,
-            pitch: 2 * half + GAP,
+            pitch: 2 * half + GAP + MORE * third,
         }
     }
 
@@ -75,11 +91,11 @@ impl Layout {
     pub fn low(&self) -> u32 {
         self.half.saturating_sub(4)
     }
+}
 
-    /// From the middle of a node to the strip of the next node, where a link ends.
-    pub fn reach(&self) -> u32 {
-        self.pitch - (self.core + self.long)
-    }
+/// How far apart things stand of which so many follow a first one in this room: no further than `most`.
+pub fn step(others: u32, room: u32, most: u32) -> u32 {
+    most.min(room / others.max(1))
 }
 
 /// A digit of a node's address, 0 in a dimension that the mesh does not have.

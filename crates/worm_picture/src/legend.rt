@@ -3,13 +3,15 @@
 ghost use Rattle.std.specs.Prelude.{[], OnOk};
 ghost use Rattle.worm_picture.specs.Picture.{Adds};
 
+use crate::layout::HEADING;
 use crate::svg::Svg;
 use std::alloc::AllocError;
 use std::fmt::Write;
 use worm_mesh::Mesh;
 use worm_rows::{Row, Shape};
 
-const STYLE: &str = "<style>
+/// How things look, and the shapes of flits.
+pub const STYLE: &str = "<style>
 .n0{fill:#fff;stroke:#ddd}
 .n1{fill:#eee;stroke:#777}
 .n2{fill:#d6d6d6;stroke:#555}
@@ -26,6 +28,7 @@ const STYLE: &str = "<style>
 .done{font-size:13px;fill:#000;text-decoration:underline}
 .head{font-size:16px;font-weight:bold}
 .note{font-size:12px}
+.stub{font-size:13px;fill:#555}
 </style>
 <defs>
 <path id=\"opening\" d=\"M-5,-5L0,-5L6,0L0,5L-5,5z\" stroke=\"#000\" stroke-width=\"0.7\"/>
@@ -40,52 +43,46 @@ const STYLE: &str = "<style>
 ";
 
 const NOTES: &str =
-    "<text class=\"note\" x=\"10\" y=\"14\">Flits, one colour and mark a packet:</text>
-<use href=\"#opening\" x=\"245\" y=\"10\" fill=\"#56B4E9\"/>
-<text class=\"note\" x=\"256\" y=\"14\">opening</text>
-<use href=\"#body\" x=\"320\" y=\"10\" fill=\"#56B4E9\"/>
-<text class=\"note\" x=\"331\" y=\"14\">body</text>
-<use href=\"#tail\" x=\"375\" y=\"10\" fill=\"#56B4E9\"/>
-<text class=\"note\" x=\"386\" y=\"14\">tail</text>
-<use href=\"#single\" x=\"420\" y=\"10\" fill=\"#56B4E9\"/>
-<text class=\"note\" x=\"431\" y=\"14\">whole packet or close mark</text>
-<text class=\"note\" x=\"10\" y=\"36\">Buffers stand where flits come in, \
-the front towards the middle of the node;</text>
-<text class=\"note\" x=\"470\" y=\"36\">below on the left what is injected.</text>
-<rect class=\"slots\" x=\"10\" y=\"47\" width=\"24\" height=\"12\"/>
-<text class=\"note\" x=\"40\" y=\"58\">a channel of a buffer</text>
-<rect class=\"full\" x=\"190\" y=\"47\" width=\"24\" height=\"12\"/>
-<text class=\"note\" x=\"220\" y=\"58\">a full one</text>
-<rect class=\"n0\" x=\"310\" y=\"45\" width=\"15\" height=\"15\"/>
-<rect class=\"n1\" x=\"328\" y=\"45\" width=\"15\" height=\"15\"/>
-<rect class=\"n2\" x=\"346\" y=\"45\" width=\"15\" height=\"15\"/>
-<rect class=\"n3\" x=\"364\" y=\"45\" width=\"15\" height=\"15\"/>
-<rect class=\"n4\" x=\"382\" y=\"45\" width=\"15\" height=\"15\"/>
-<text class=\"note\" x=\"402\" y=\"58\">how full a node's buffers are: none to over 3/4</text>
-<path class=\"holds edge\" d=\"M10,76L34,76\"/>
-<path class=\"holds\" stroke=\"#0072B2\" d=\"M10,76L34,76\"/>
-<text class=\"note\" x=\"40\" y=\"80\">the way that a packet holds: its opening went there</text>
-<path class=\"wants edge\" d=\"M400,76L424,76\"/>
-<path class=\"wants\" stroke=\"#0072B2\" d=\"M400,76L424,76\"/>
-<text class=\"note\" x=\"430\" y=\"80\">the way that an opening at a front wants</text>
-<text class=\"note\" x=\"10\" y=\"102\" font-weight=\"bold\">27</text>
-<text class=\"note\" x=\"40\" y=\"102\">the node's number</text>
-<text class=\"note\" x=\"190\" y=\"102\">+3 flits wait in its source</text>
-<text class=\"note\" x=\"400\" y=\"102\" text-decoration=\"underline\">5</text>
-<text class=\"note\" x=\"430\" y=\"102\">flits were delivered to it</text>
-<text class=\"note\" x=\"10\" y=\"124\">A way that ends inside its node leads to the sink. \
-Hover over a flit, or a count, to read what it is.</text>
-<text class=\"note\" x=\"10\" y=\"146\">Node 0 is at the top left. \
-The first dimension goes to the right, the second goes down.</text>
-<text class=\"note\" x=\"10\" y=\"168\">fullest: its buffers hold most; got most: its sink does.</text>
+    "<text class=\"note\" x=\"10\" y=\"12\">Flits, coloured and marked by packet:</text>
+<use href=\"#opening\" x=\"258\" y=\"8\" fill=\"#56B4E9\"/>
+<text class=\"note\" x=\"268\" y=\"12\">opening</text>
+<use href=\"#body\" x=\"334\" y=\"8\" fill=\"#56B4E9\"/>
+<text class=\"note\" x=\"344\" y=\"12\">body</text>
+<use href=\"#tail\" x=\"390\" y=\"8\" fill=\"#56B4E9\"/>
+<text class=\"note\" x=\"400\" y=\"12\">tail</text>
+<use href=\"#single\" x=\"438\" y=\"8\" fill=\"#56B4E9\"/>
+<text class=\"note\" x=\"448\" y=\"12\">whole packet or close mark</text>
+<text class=\"note\" x=\"640\" y=\"12\">Hover to read.</text>
+<rect class=\"slots\" x=\"10\" y=\"21\" width=\"24\" height=\"12\"/>
+<text class=\"note\" x=\"40\" y=\"32\">buffer of a channel</text>
+<rect class=\"full\" x=\"176\" y=\"21\" width=\"24\" height=\"12\"/>
+<text class=\"note\" x=\"206\" y=\"32\">full</text>
+<rect class=\"n0\" x=\"250\" y=\"20\" width=\"15\" height=\"15\"/>
+<rect class=\"n1\" x=\"268\" y=\"20\" width=\"15\" height=\"15\"/>
+<rect class=\"n2\" x=\"286\" y=\"20\" width=\"15\" height=\"15\"/>
+<rect class=\"n3\" x=\"304\" y=\"20\" width=\"15\" height=\"15\"/>
+<rect class=\"n4\" x=\"322\" y=\"20\" width=\"15\" height=\"15\"/>
+<text class=\"note\" x=\"343\" y=\"32\">a node's buffers: empty, up to 1/4, 1/2, 3/4, over 3/4 full</text>
+<path class=\"holds edge\" d=\"M10,48L34,48\"/>
+<path class=\"holds\" stroke=\"#0072B2\" d=\"M10,48L34,48\"/>
+<text class=\"note\" x=\"40\" y=\"52\">way that a packet holds</text>
+<path class=\"wants edge\" d=\"M220,48L244,48\"/>
+<path class=\"wants\" stroke=\"#0072B2\" d=\"M220,48L244,48\"/>
+<text class=\"note\" x=\"250\" y=\"52\">way that an opening wants</text>
+<text class=\"note\" x=\"448\" y=\"52\">A way that ends in its node goes to the sink.</text>
+<text class=\"note\" x=\"10\" y=\"72\" font-weight=\"bold\">27</text>
+<text class=\"note\" x=\"34\" y=\"72\">node</text>
+<text class=\"note\" x=\"90\" y=\"72\">+3 wait in its source</text>
+<text class=\"note\" x=\"250\" y=\"72\" text-decoration=\"underline\">5</text>
+<text class=\"note\" x=\"264\" y=\"72\">were delivered to it</text>
+<text class=\"note\" x=\"448\" y=\"72\">fullest, got most: of all nodes</text>
+<text class=\"note\" x=\"10\" y=\"92\">Node 0 is at the top left; dimension 0 goes to the right, 1 down. \
+Buffers: front to the middle; lower left: what is injected.</text>
 ";
 
-/// How things look, and the shapes of flits.
-pub fn add_style(svg: &mut Svg) -> Result<(), AllocError>
-    ensures { OnOk result (Adds svg.old svg.new []) }
-{
-    svg.put(STYLE)
-}
+const THIRD: &str = "<text class=\"note\" x=\"10\" y=\"112\">\
+Dimension 2 goes from slice to slice, by stubs at a node's edge, under the number of the node there.</text>
+";
 
 /// What a row tells of the run: the options, or a worker that was stopped.
 fn add_option(svg: &mut Svg, row: &Row) -> Result<(), AllocError>
@@ -142,20 +139,14 @@ fn add_sums(svg: &mut Svg, rows: &[Row], moving: u32) -> Result<(), AllocError>
     svg.put("</text>\n")
 }
 
-/// A radix, behind those before it.
-fn add_radix(svg: &mut Svg, radix: u8) -> Result<(), AllocError>
-    ensures { OnOk result (Adds svg.old svg.new []) }
-{
-    write!(svg.text, " {radix}")
-}
-
 /// The radices of the mesh.
 fn add_radices(svg: &mut Svg, mesh: &Mesh) -> Result<(), AllocError>
     ensures { OnOk result (Adds svg.old svg.new []) }
 {
     svg.put("<text class=\"note\" x=\"10\" y=\"54\">Radices:")?;
     for dim in 0..mesh.dims() {
-        add_radix(svg, mesh.radix(dim))?;
+        let radix = mesh.radix(dim);
+        write!(svg.text, " {radix}")?;
     }
     Ok(())
 }
@@ -191,12 +182,15 @@ pub fn add_heading(
     svg.close()
 }
 
-/// The end of a picture: what the signs mean, from this height on, so many times as large as in a small picture.
-pub fn add_legend(svg: &mut Svg, y: u32, scale: u32) -> Result<(), AllocError>
+/// What the signs mean, below the heading, so many times as large as in a small picture.
+pub fn add_legend(svg: &mut Svg, dims: u8, scale: u32) -> Result<(), AllocError>
     ensures { OnOk result (Adds svg.old svg.new []) }
 {
-    svg.open_scaled(y, scale)?;
+    svg.open_scaled(HEADING.saturating_mul(scale), scale)?;
     svg.put(NOTES)?;
-    svg.close()?;
-    svg.put("</svg>\n")
+    if dims < 3 {
+        return svg.close();
+    }
+    svg.put(THIRD)?;
+    svg.close()
 }

@@ -50,7 +50,8 @@ fn flit_of(row: &Row) -> Option<(PacketId, u8, bool)>
 }
 
 /// What a packet is coloured and marked by. It hangs on nothing but the packet, so that the packet looks the same in
-/// each picture of a run. Packets that are likely to meet, of one lane or from nodes beside one another, look different.
+/// each picture of a run. Packets that are likely to meet, of one lane or from nodes beside one another, look
+/// different.
 fn sign_of(packet: PacketId) -> u32 {
     let PacketId { lane, number } = packet;
     u32::from(number) + 9 * u32::from(lane.src) + 5 * u32::from(lane.class)

@@ -3,18 +3,22 @@
 ghost use Rattle.std.specs.Prelude.{[], map, IfOk, OnOk, string_bytes};
 ghost use Rattle.std.specs.List.{flat_map};
 ghost use Rattle.worm_picture.specs.Nodes.{shown, station_flits, view_flits};
+ghost use Rattle.worm_picture.specs.Packets.{tail_in};
 ghost use Rattle.worm_picture.specs.Picture.{Adds, PicturesFlits, flit_name};
 
 use crate::counts::add_counts;
 use crate::flits::add_row;
-use crate::layout::{HEADING, LEGEND, Layout, NAME, NARROWEST, SLOT, digit, radix, slices_across};
-use crate::legend::{add_heading, add_legend, add_style};
+use crate::layout::{
+    FIRST, HEADING, LEGEND, LINE, Layout, NAME, NARROWEST, SLOT, STUB, WAYS, digit, radix,
+    slices_across, step,
+};
+use crate::legend::{STYLE, add_heading, add_legend};
 use crate::packets::Packets;
-use crate::scene::{Flit, exit_port};
+use crate::scene::exit_port;
 use crate::signs::{exit_of, frame_of, slots_of};
 use crate::svg::Svg;
 use crate::views::{Most, NodeView, Station, most_of};
-use crate::ways::{Way, add_way};
+use crate::ways::{Way, add_way, lane_of, way_out};
 use std::alloc::{AllocError, Global};
 use std::fmt::Write;
 use worm_rows::{Row, Shape};
@@ -34,78 +38,95 @@ struct Scene<'a> {
 impl<'a> Scene<'a> {
     /// How far the channels of a port stand from the middle of its node's core, across the way of its flits.
     fn offset(&self, port: u8) -> u32 {
-        if port < 4 && port < 2 * self.shape.mesh.dims() {
+        if port / 2 == self.shape.mesh.dims() {
+            self.layout.core + 4
+        } else if port < 4 {
             2
         } else {
-            self.layout.core + 4
+            self.layout.core + 4 + WAYS
         }
     }
 
-    /// The slots of a channel, marked where all are taken.
-    fn add_slots(&self, svg: &mut Svg, count: usize, top: u32) -> Result<(), AllocError>
+    /// The buffer of a channel, where there is such a channel, marked where all its slots are taken.
+    fn add_buffer(&self, svg: &mut Svg, station: &Station, top: u32) -> Result<(), AllocError>
         ensures { OnOk result (Adds svg.old svg.new []) }
     {
+        if !self.has_input(station.spot.node, station.spot.port) {
+            return Ok(());
+        }
         let long = self.layout.long;
         let left = self.layout.core + long;
-        let class = slots_of(count >= usize::from(self.depth));
+        let class = slots_of(station.held.len() >= usize::from(self.depth));
         write!(
             svg.text,
             "<rect class=\"{class}\" x=\"-{left}\" y=\"{top}\" width=\"{long}\" height=\"12\"/>\n"
         )
     }
 
-    /// The buffer of a channel, where there is such a channel.
-    fn add_buffer(&self, svg: &mut Svg, station: &Station, top: u32) -> Result<(), AllocError>
-        ensures { OnOk result (Adds svg.old svg.new []) }
-    {
-        if self.has_input(station.spot.node, station.spot.port) {
-            self.add_slots(svg, station.held.len(), top)
-        } else {
-            Ok(())
-        }
-    }
-
-    /// The way of the flit at the front of a buffer through the core: a line in its packet's colour to the port that
-    /// it leaves by, and along the link where its packet holds it.
-    fn add_way(&self, svg: &mut Svg, flit: &Flit, y: u32) -> Result<(), AllocError>
+    /// The way of the flit at the front of a channel's buffer, if there is one, through the core: a line in its
+    /// packet's colour to the port that it leaves by, beside the ways of the node's other fronts there.
+    fn add_way(
+        &self,
+        svg: &mut Svg,
+        stations: &[Station],
+        station: &Station,
+    ) -> Result<(), AllocError>
         ensures { OnOk result (Adds svg.old svg.new []) }
     {
         let mesh = &self.shape.mesh;
         let dims = mesh.dims();
+        let Some(flit) = station.held.as_slice().first() else {
+            return Ok(());
+        };
         let Some(exit) = exit_port(mesh, flit) else {
             return Ok(());
         };
         let packet = self.packets.get(flit.packet);
         let core = self.layout.core;
+        let level = self.top_of(station).saturating_add(SLOT / 2);
+        let lane = lane_of(mesh, stations, station.spot, exit);
+        let out = way_out(&self.layout, dims, exit, lane, flit.index > 0);
         svg.open_frame(frame_of(dims, flit.spot.port))?;
-        add_way(svg, flit.index, packet, Way::In { core, level: y })?;
+        add_way(svg, flit.index, packet, Way::In { core, level })?;
         svg.close()?;
-        let to = if exit == 2 * dims {
-            core
-        } else if flit.index == 0 || exit >= 4 {
-            self.layout.half
-        } else {
-            self.layout.reach()
-        };
-        let level = if exit == 2 * dims { core } else { 2 + SLOT / 2 };
         svg.open_frame(exit_of(dims, exit))?;
-        add_way(svg, flit.index, packet, Way::Out { core, level, to })?;
+        add_way(svg, flit.index, packet, out)?;
         svg.close()
     }
 
     /// A channel of an input port: its slots, and what is in them and on its link.
     fn add_channel(&self, svg: &mut Svg, station: &Station) -> Result<(), AllocError>
-        ensures { OnOk result (Adds svg.old svg.new (map flit_name (station_flits station.now))) }
+        ensures { OnOk result (Adds svg.old svg.new
+            (map (flit_name (tail_in self.now.packets.now)) (station_flits station.now))) }
     {
         let top = self.top_of(station);
         let y = top.saturating_add(SLOT / 2);
         let front = self.layout.core + SLOT / 2;
-        let coming = self.layout.half + SLOT;
+        let coming = self.layout.half + FIRST;
+        let apart = self.apart_on_link(station);
         svg.open_frame(frame_of(self.shape.mesh.dims(), station.spot.port))?;
         self.add_buffer(svg, station, top)?;
-        add_row(svg, self.packets, station.held.as_slice(), front, y)?;
-        add_row(svg, self.packets, station.coming.as_slice(), coming, y)?;
+        add_row(svg, self.packets, station.held.as_slice(), front, y, SLOT)?;
+        add_row(
+            svg,
+            self.packets,
+            station.coming.as_slice(),
+            coming,
+            y,
+            apart,
+        )?;
         svg.close()
+    }
+
+    /// How far apart the flits on the link to a channel stand, so that all are between the nodes.
+    fn apart_on_link(&self, station: &Station) -> u32 {
+        let room = if station.spot.port < 4 {
+            self.layout.pitch - 2 * self.layout.half
+        } else {
+            STUB
+        };
+        let others = station.coming.len().saturating_sub(1).min(255);
+        step(others as u32, room.saturating_sub(2 * FIRST), SLOT)
     }
 
     /// How far a channel stands from the middle of its node's core, across the way of its flits.
@@ -118,19 +139,56 @@ impl<'a> Scene<'a> {
     fn add_link(&self, svg: &mut Svg, node: u8, port: u8) -> Result<(), AllocError>
         ensures { OnOk result (Adds svg.old svg.new []) }
     {
-        let dims = self.shape.mesh.dims();
-        if port >= 4 || port >= 2 * dims || !self.has_input(node, port) {
+        let mesh = &self.shape.mesh;
+        let Some(from) = mesh.neighbour(node, port) else {
             return Ok(());
+        };
+        if port >= 4 {
+            return self.add_stub(svg, port, from);
         }
         let right = self.layout.core + self.layout.long;
         let start = self.layout.pitch - self.layout.half;
-        let level = 2 + SLOT / 2;
-        svg.open_frame(frame_of(dims, port))?;
+        let level = 2 + self.layout.wide / 2;
+        svg.open_frame(frame_of(mesh.dims(), port))?;
         write!(
             svg.text,
             "<path class=\"link\" d=\"M-{start},{level}L-{right},{level}\"/>\n"
         )?;
         svg.close()
+    }
+
+    /// The links from and to a node of the third dimension: stubs at the node's own edge, under that node's number.
+    fn add_stub(&self, svg: &mut Svg, port: u8, there: u8) -> Result<(), AllocError>
+        ensures { OnOk result (Adds svg.old svg.new []) }
+    {
+        let half = self.layout.half;
+        let end = half + STUB;
+        let out = self.layout.core + 11;
+        let right = self.layout.core + self.layout.long;
+        let low = self.offset(port);
+        let level = low.saturating_add(self.layout.wide / 2);
+        let above = low.saturating_add(self.layout.wide + 3);
+        let text = half + 3;
+        svg.open_frame(frame_of(self.shape.mesh.dims(), port))?;
+        write!(
+            svg.text,
+            "<path class=\"link\" d=\"M-{end},{level}L-{right},{level}\"/>\n"
+        )?;
+        write!(
+            svg.text,
+            "<path class=\"link\" d=\"M-{half},{out}L-{end},{out}\"/>\n"
+        )?;
+        svg.close()?;
+        if port == 5 {
+            return write!(
+                svg.text,
+                "<text class=\"stub\" x=\"{text}\" y=\"-{above}\">{there}</text>\n"
+            );
+        }
+        write!(
+            svg.text,
+            "<text class=\"stub\" x=\"-{text}\" y=\"-{above}\" text-anchor=\"end\">{there}</text>\n"
+        )
     }
 
     /// Whether flits come in at the port.
@@ -157,29 +215,6 @@ impl<'a> Scene<'a> {
             3
         } else {
             4
-        }
-    }
-
-    /// The ways of the flits at the fronts of a node's buffers.
-    fn add_ways(&self, svg: &mut Svg, view: &NodeView) -> Result<(), AllocError>
-        ensures { OnOk result (Adds svg.old svg.new []) }
-    {
-        for station in view.stations.as_slice() {
-            self.add_first_way(svg, station)?;
-        }
-        Ok(())
-    }
-
-    /// The way of the flit at the front of a channel's buffer, where there is one.
-    fn add_first_way(&self, svg: &mut Svg, station: &Station) -> Result<(), AllocError>
-        ensures { OnOk result (Adds svg.old svg.new []) }
-    {
-        match station.held.as_slice().first() {
-            Some(first) => {
-                let y = self.top_of(station).saturating_add(SLOT / 2);
-                self.add_way(svg, first, y)
-            }
-            None => Ok(()),
         }
     }
 
@@ -238,22 +273,15 @@ impl<'a> Scene<'a> {
             return Ok(());
         }
         for slice in 0..slices {
-            self.add_name(svg, slice)?;
+            let (x, y) = self.corner_of(slice);
+            svg.open_at(x, y)?;
+            write!(
+                svg.text,
+                "<text class=\"head\" x=\"15\" y=\"0\">Dimension 2: {slice}</text>\n"
+            )?;
+            svg.close()?;
         }
         Ok(())
-    }
-
-    /// The name of a slice.
-    fn add_name(&self, svg: &mut Svg, slice: u8) -> Result<(), AllocError>
-        ensures { OnOk result (Adds svg.old svg.new []) }
-    {
-        let (x, y) = self.corner_of(slice);
-        svg.open_at(x, y)?;
-        write!(
-            svg.text,
-            "<text class=\"head\" x=\"15\" y=\"0\">Third dimension: {slice}</text>\n"
-        )?;
-        svg.close()
     }
 
     /// The border of a node, the links to it, and its counts.
@@ -263,7 +291,9 @@ impl<'a> Scene<'a> {
         let (x, y) = self.middle_of(view.node);
         svg.open_at(x, y)?;
         self.add_border(svg, view)?;
-        self.add_links(svg, view.node)?;
+        for port in 0..6u8 {
+            self.add_link(svg, view.node, port)?;
+        }
         add_counts(svg, &self.layout, self.rows, view)?;
         self.add_held_mark(svg, view)?;
         self.add_arrived_mark(svg, view)?;
@@ -314,29 +344,23 @@ impl<'a> Scene<'a> {
         )
     }
 
-    /// The links to a node.
-    fn add_links(&self, svg: &mut Svg, node: u8) -> Result<(), AllocError>
-        ensures { OnOk result (Adds svg.old svg.new []) }
-    {
-        for port in 0..4u8 {
-            self.add_link(svg, node, port)?;
-        }
-        Ok(())
-    }
-
-    /// The ways of a node's flits.
+    /// The ways of the flits at the fronts of a node's buffers.
     fn add_traces(&self, svg: &mut Svg, view: &NodeView) -> Result<(), AllocError>
         ensures { OnOk result (Adds svg.old svg.new []) }
     {
         let (x, y) = self.middle_of(view.node);
         svg.open_at(x, y)?;
-        self.add_ways(svg, view)?;
+        let stations = view.stations.as_slice();
+        for station in stations {
+            self.add_way(svg, stations, station)?;
+        }
         svg.close()
     }
 
     /// The channels of a node, with what is in them and on their links.
     fn add_channels(&self, svg: &mut Svg, stations: &[Station]) -> Result<(), AllocError>
-        ensures { OnOk result (Adds svg.old svg.new (map flit_name (flat_map station_flits stations.now))) }
+        ensures { OnOk result (Adds svg.old svg.new
+            (map (flit_name (tail_in self.now.packets.now)) (flat_map station_flits stations.now))) }
     {
         for station in stations {
             self.add_channel(svg, station)?;
@@ -346,7 +370,8 @@ impl<'a> Scene<'a> {
 
     /// The flits in a node's buffers and on the links to it.
     fn add_node(&self, svg: &mut Svg, view: &NodeView) -> Result<(), AllocError>
-        ensures { OnOk result (Adds svg.old svg.new (map flit_name (view_flits view.now))) }
+        ensures { OnOk result (Adds svg.old svg.new
+            (map (flit_name (tail_in self.now.packets.now)) (view_flits view.now))) }
     {
         let (x, y) = self.middle_of(view.node);
         svg.open_at(x, y)?;
@@ -356,7 +381,8 @@ impl<'a> Scene<'a> {
 
     /// The flits of all nodes.
     fn add_nodes(&self, svg: &mut Svg, views: &[NodeView]) -> Result<(), AllocError>
-        ensures { OnOk result (Adds svg.old svg.new (map flit_name (shown views.now))) }
+        ensures { OnOk result (Adds svg.old svg.new
+            (map (flit_name (tail_in self.now.packets.now)) (shown views.now))) }
     {
         for view in views {
             self.add_node(svg, view)?;
@@ -389,7 +415,7 @@ impl<'a> Scene<'a> {
         ensures { OnOk result (Adds svg.old svg.new []) }
     {
         page.open(svg)?;
-        add_style(svg)?;
+        svg.put(STYLE)?;
         add_heading(
             svg,
             self.shape,
@@ -398,6 +424,7 @@ impl<'a> Scene<'a> {
             self.packets.moving(),
             page.scale,
         )?;
+        add_legend(svg, self.shape.mesh.dims(), page.scale)?;
         self.add_names(svg)?;
         self.add_grounds(svg, views)?;
         self.add_all_traces(svg, views)
@@ -405,12 +432,13 @@ impl<'a> Scene<'a> {
 
     /// The flits between what stands before them and what comes behind.
     fn text(&self, alloc: Global, views: &[NodeView], page: &Page) -> Result<String, AllocError>
-        ensures { IfOk result (λ text. PicturesFlits (string_bytes text) (shown views.now)) }
+        ensures { IfOk result (λ text.
+            PicturesFlits (string_bytes text) (tail_in self.now.packets.now) (shown views.now)) }
     {
         let mut picture = Svg::new(alloc);
         self.add_front(&mut picture, views, page)?;
         self.add_nodes(&mut picture, views)?;
-        add_legend(&mut picture, page.foot, page.scale)?;
+        picture.put("</svg>\n")?;
         Ok(picture.text)
     }
 }
@@ -420,8 +448,6 @@ impl<'a> Scene<'a> {
 struct Page {
     width: u32,
     height: u32,
-    /// Where the legend begins.
-    foot: u32,
     /// How large the heading and the legend are.
     scale: u32,
 }
@@ -449,26 +475,25 @@ pub fn picture(
     packets: &Packets,
     views: &[NodeView],
 ) -> Result<String, AllocError>
-    ensures { IfOk result (λ text. PicturesFlits (string_bytes text) (shown views.now)) }
+    ensures { IfOk result (λ text. PicturesFlits (string_bytes text) (tail_in packets.now) (shown views.now)) }
 {
     let mut scene = Scene {
         shape,
         depth,
         rows,
         packets,
-        layout: Layout::new(depth, shape.vcs),
+        layout: Layout::new(depth, shape.vcs, shape.mesh.dims()),
         most: most_of(views),
         head: 0,
     };
     let (mesh_width, mesh_height) = scene.size();
     let width = mesh_width.max(NARROWEST);
     let scale = width / NARROWEST;
-    scene.head = HEADING.saturating_mul(scale);
-    let foot = mesh_height.saturating_add(scene.head);
+    let third = u32::from(shape.mesh.dims() / 3);
+    scene.head = (HEADING + LEGEND + LINE * third).saturating_mul(scale);
     let page = Page {
         width,
-        height: foot.saturating_add(LEGEND.saturating_mul(scale)),
-        foot,
+        height: mesh_height.saturating_add(scene.head),
         scale,
     };
     scene.text(alloc, views, &page)

@@ -4,12 +4,60 @@ ghost use Rattle.std.specs.Prelude.{[], OnOk, Some};
 ghost use Rattle.worm_picture.specs.Picture.{Adds};
 ghost use Rattle.worm_picture.specs.Ways.{way_path};
 
+use crate::layout::{Layout, STUB, WAYS, step};
 use crate::packets::Packet;
+use crate::scene::{Spot, exit_port};
 use crate::signs::{colour_of, way_of};
 use crate::svg::Svg;
+use crate::views::Station;
 use std::alloc::AllocError;
 use std::fmt;
 use std::fmt::Write;
+use worm_mesh::Mesh;
+
+/// How far apart ways out by one port stand at most.
+const APART: u32 = 8;
+
+/// The room for the ways to the sink.
+const TO_SINK: u32 = 12;
+
+/// Where a way stands among those that lead out of a node by one port.
+#[derive(Clone, Copy, Debug, PartialEq, Eq)]
+pub struct Lane {
+    /// How many come before it.
+    rank: u32,
+    /// How many there are.
+    ways: u32,
+}
+
+impl Lane {
+    /// Where it is in this room, if all stand side by side in its middle.
+    fn beside(self, room: u32) -> u32 {
+        let others = self.ways.saturating_sub(1);
+        let apart = step(others, room, APART);
+        let left = room.saturating_sub(apart.saturating_mul(others));
+        (left / 2).saturating_add(apart.saturating_mul(self.rank))
+    }
+}
+
+/// The port by which the front of a buffer leaves the node, where there is one.
+fn front_exit(mesh: &Mesh, station: &Station) -> Option<u8> {
+    exit_port(mesh, station.held.as_slice().first()?)
+}
+
+/// Where the way of a channel's front stands among those of a node's fronts that leave by this port.
+pub fn lane_of(mesh: &Mesh, stations: &[Station], spot: Spot, exit: u8) -> Lane {
+    let mut lane = Lane { rank: 0, ways: 0 };
+    for station in stations {
+        if station.spot == spot {
+            lane.rank = lane.ways;
+        }
+        if front_exit(mesh, station) == Some(exit) {
+            lane.ways = lane.ways.saturating_add(1);
+        }
+    }
+    lane
+}
 
 /// A part of a packet's way, as a path from point to point.
 #[derive(Clone, Copy, Debug, PartialEq, Eq)]
@@ -30,6 +78,26 @@ pub enum Way {
         /// How far the way goes.
         to: u32,
     },
+    /// From the middle of the node out of its core near a corner, and on by a stub of the third dimension.
+    Stub {
+        /// How far the border of the core is.
+        core: u32,
+        /// The level at which it leaves the core.
+        bend: u32,
+        /// Where it comes to the level of the stub.
+        knee: u32,
+        /// The level of the stub.
+        level: u32,
+        /// How far the way goes.
+        to: u32,
+    },
+    /// From the middle of the node to its sink.
+    Sink {
+        /// How far to the right.
+        x: u32,
+        /// How far down.
+        y: u32,
+    },
 }
 
 impl fmt::Display for Way {
@@ -39,7 +107,46 @@ impl fmt::Display for Way {
         match *self {
             Way::In { core, level } => write!(f, "M-{core},{level}L0,0"),
             Way::Out { core, level, to } => write!(f, "M0,0L{core},{level}L{to},{level}"),
+            Way::Stub {
+                core,
+                bend,
+                knee,
+                level,
+                to,
+            } => { write!(f, "M0,0L{core},{bend}L{knee},{level}L{to},{level}") }
+            Way::Sink { x, y } => write!(f, "M0,0L{x},{y}"),
         }
+    }
+}
+
+/// The way out by a port, beside the others there: along the link where it is held, else to the border of the node.
+pub fn way_out(layout: &Layout, dims: u8, exit: u8, lane: Lane, is_held: bool) -> Way {
+    let core = layout.core;
+    if exit / 2 == dims {
+        let along = lane.beside(TO_SINK);
+        return Way::Sink {
+            x: (core + 8 + TO_SINK / 2).saturating_sub(along),
+            y: (core + 8 - TO_SINK / 2).saturating_add(along),
+        };
+    }
+    if exit >= 4 {
+        let level = (core + 3).saturating_add(lane.beside(WAYS - 3));
+        return Way::Stub {
+            core,
+            bend: level.saturating_sub(WAYS),
+            knee: core + WAYS,
+            level,
+            to: layout.half + if is_held { STUB } else { 0 },
+        };
+    }
+    Way::Out {
+        core,
+        level: lane.beside(layout.wide).saturating_add(2),
+        to: if is_held {
+            layout.pitch - (core + layout.long)
+        } else {
+            layout.half
+        },
     }
 }
 

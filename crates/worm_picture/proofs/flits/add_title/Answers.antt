@@ -1,5 +1,5 @@
 use Rattle.std.proofs.Common.{[], ◌∷◌}
-use Rattle.worm_picture.specs.Picture.{name_of}
+use Rattle.worm_picture.specs.Titles.{flit_title}
 use Rattle.worm_picture.proofs.Names.{adds, title}
 use Rattle.worm_picture.proofs.flits.add_title.Goals as goal
 
@@ -7,4 +7,4 @@ pub returns : goal.returns
 returns c =
     let t = c.args.title in
     adds c.write.result c.args.svg.now (record { text = c.write.new.self }) _
-    (name_of t.packet t.index ∷ []) c.write.ensures.bytes (title t)
+    (flit_title t ∷ []) c.write.ensures.bytes (title t)

@@ -1,6 +1,6 @@
 use Rattle.std.proofs.Common.{[], refl}
 use Rattle.worm_picture.proofs.Names.{adds, number, word}
-use Rattle.worm_picture.proofs.picture.Scene.add_slots.Goals as goal
+use Rattle.worm_picture.proofs.picture.Scene.add_buffer.Goals as goal
 
 pub returns : goal.returns
 returns c =
