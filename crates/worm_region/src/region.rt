@@ -1,6 +1,6 @@
 //! The lists of a network with what its moves need of them, and the moves: small steps, each of which keeps that.
 
-ghost use Rattle.std.specs.Prelude.{None, Some, ◌≡◌, ◌≤◌, ◌<◌, ◌*◌, ℕ, Result, IsTrue, Ok, IsSome};
+ghost use Rattle.std.specs.Prelude.{None, Some, ◌≡◌, ◌≤◌, ◌<◌, ◌*◌, Result, IsTrue, Ok, IsSome};
 ghost use Rattle.std.specs.Prelude.{sum, length, IfSome, IfOk, Err, ◌↔◌};
 ghost use Rattle.worm_theory.specs.Steps.{IsThere, Step as Event};
 ghost use Rattle.worm_region.specs.Runs.{event_of};

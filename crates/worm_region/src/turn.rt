@@ -1,6 +1,6 @@
 //! The turn of a node, and the turns of all nodes in rising number.
 
-ghost use Rattle.std.specs.Prelude.{List, [], ◌≡◌, ◌<◌, ◌*◌, Option, None, Some, true, false, length, sum};
+ghost use Rattle.std.specs.Prelude.{List, [], ◌≡◌, ◌<◌, ◌*◌, Option, None, Some, true, false};
 ghost use Rattle.std.specs.Result.{result_err};
 ghost use Rattle.worm_mesh.specs.Address.{node_count};
 ghost use Rattle.worm_region.specs.Replies.{Attempts, Replies};
