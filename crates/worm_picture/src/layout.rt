@@ -87,6 +87,17 @@ impl Layout {
             .saturating_add(self.pitch / 2)
     }
 
+    /// How far apart so many flits on the link to a port stand, so that all are between the nodes.
+    pub fn on_link(&self, port: u8, flits: usize) -> u32 {
+        let room = if port < 4 {
+            self.pitch - 2 * self.half
+        } else {
+            STUB
+        };
+        let others = flits.saturating_sub(1).min(255);
+        step(others as u32, room.saturating_sub(2 * FIRST), SLOT)
+    }
+
     /// From the middle of a node to its counts.
     pub fn low(&self) -> u32 {
         self.half.saturating_sub(4)

@@ -10,7 +10,7 @@ use crate::counts::add_counts;
 use crate::flits::add_row;
 use crate::layout::{
     FIRST, HEADING, LEGEND, LINE, Layout, NAME, NARROWEST, SLOT, STUB, WAYS, digit, radix,
-    slices_across, step,
+    slices_across,
 };
 use crate::legend::{STYLE, add_heading, add_legend};
 use crate::packets::Packets;
@@ -103,7 +103,7 @@ impl<'a> Scene<'a> {
         let y = top.saturating_add(SLOT / 2);
         let front = self.layout.core + SLOT / 2;
         let coming = self.layout.half + FIRST;
-        let apart = self.apart_on_link(station);
+        let apart = self.layout.on_link(station.spot.port, station.coming.len());
         svg.open_frame(frame_of(self.shape.mesh.dims(), station.spot.port))?;
         self.add_buffer(svg, station, top)?;
         add_row(svg, self.packets, station.held.as_slice(), front, y, SLOT)?;
@@ -116,17 +116,6 @@ impl<'a> Scene<'a> {
             apart,
         )?;
         svg.close()
-    }
-
-    /// How far apart the flits on the link to a channel stand, so that all are between the nodes.
-    fn apart_on_link(&self, station: &Station) -> u32 {
-        let room = if station.spot.port < 4 {
-            self.layout.pitch - 2 * self.layout.half
-        } else {
-            STUB
-        };
-        let others = station.coming.len().saturating_sub(1).min(255);
-        step(others as u32, room.saturating_sub(2 * FIRST), SLOT)
     }
 
     /// How far a channel stands from the middle of its node's core, across the way of its flits.

@@ -1,4 +1,4 @@
-use Rattle.std.proofs.Common.{[], refl}
+use Rattle.std.proofs.Common.{refl}
 use Rattle.worm_picture.proofs.Names.{none_both, none_then, wrote_none}
 use Rattle.worm_picture.proofs.legend.add_legend.Goals as goal
 

@@ -1,4 +1,4 @@
-use Rattle.std.proofs.Common.{[], refl}
+use Rattle.std.proofs.Common.{refl}
 use Rattle.worm_picture.proofs.Names.{last_number, none_both, wrote_none}
 use Rattle.worm_picture.proofs.legend.add_radices.Goals as goal
 
