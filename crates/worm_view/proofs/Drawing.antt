@@ -1,7 +1,7 @@
 -- What a call that writes tells, where both texts are accepted.
 use Rattle.std.proofs.Common.{◌≡◌, ◌++◌, ◌∙◌, ℕ, List, Option, Result, Ok, Err, OnOk, OnErr, IfErr, ap}
-use Rattle.std.proofs.Common.{append-nil, inr, subst, sym}
-use Rattle.std.specs.Io.KnownBytes.{Appends}
+use Rattle.std.proofs.Common.{append-nil, inl, inr, subst, sym}
+use Rattle.std.specs.Io.KnownBytes.{Appends, Keeps}
 use Rattle.worm_report.specs.Writing.{Writes}
 use Rattle.worm_report.specs.declared.summary.ReportFault.{ReportFault}
 use Rattle.worm_view.specs.declared.form.Form.{Form}
@@ -10,6 +10,7 @@ use Rattle.worm_view.specs.declared.fault.ViewFault.TheVariants.{Network, Report
 use Rattle.worm_view.specs.declared.fault.ViewFault.TheVariants.{Write}
 use Rattle.worm_view.specs.Programs.{BeginsToDraw, DrawsTexts, FailsTexts, FailsToDraw, GaveBoth, IsDrawing, Stream}
 use Rattle.worm_view.specs.Programs.{WritesPart, stream}
+use Rattle.worm_view.specs.Views.{IsRefused}
 
 -- ---- bytes that are those of a drawing
 
@@ -41,6 +42,16 @@ failed form network report drawing out (Err fault) of_texts same written =
     let begun : BeginsToDraw form network report out =
     record { drawing = drawing; of_texts = of_texts; written = written } in
     subst (FailsTexts form network report out) (sym same) begun
+
+-- two texts that are not both accepted, where nothing was written
+pub refused : (form : Form) (network report : List ℕ) (out : Stream) (fault : ViewFault)
+    → IsRefused network report fault → Keeps out.old out.new → FailsTexts form network report out fault
+refused form network report out (Network t) is keeps = (is, keeps)
+refused form network report out (Report t) is keeps = (is, keeps)
+refused form network report out ReadNetwork is keeps = absurd is
+refused form network report out ReadReport is keeps = absurd is
+refused form network report out NoMemory is keeps = (inl is, keeps)
+refused form network report out Write is keeps = absurd is
 
 -- ---- readers
 

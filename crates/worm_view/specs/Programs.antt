@@ -11,7 +11,7 @@ use Rattle.worm_view.specs.declared.fault.ViewFault.TheVariants as f
 use Rattle.worm_picture.specs.Picture.{PicturesRows}
 use Rattle.worm_waits.specs.Text.{TellsWaits}
 use Rattle.worm_text.specs.Whole.{GaveFront, GaveWhole, IsWhole}
-use Rattle.worm_view.specs.Views.{IsAccepted, IsNetworkText, IsRefused}
+use Rattle.worm_view.specs.Views.{IsAccepted, IsRefused, RanOutOver}
 
 -- what a reader had left and has left, or what a writer held and holds
 pub record Stream : Type 0 where
@@ -77,13 +77,15 @@ pub record BeginsToDraw (form : Form) (network report : List ℕ) (out : Stream)
   pub of_texts : IsDrawing form network report drawing
   pub written : WritesPart out drawing
 
--- what a fault tells of two texts at hand: nothing was written, but where the writer failed
+-- What a fault tells of two texts at hand: nothing was written, but where the writer failed. Memory ran out over the
+-- report, or over the drawing of two texts that are accepted.
 abbrev pub FailsTexts : Form → List ℕ → List ℕ → Stream → ViewFault → Type 0
 FailsTexts form network report out (f.Network t) = IsRefused network report (f.Network t) × Keeps out.old out.new
 FailsTexts form network report out (f.Report t) = IsRefused network report (f.Report t) × Keeps out.old out.new
 FailsTexts form network report out f.ReadNetwork = ⊥
 FailsTexts form network report out f.ReadReport = ⊥
-FailsTexts form network report out f.NoMemory = IsNetworkText network × Keeps out.old out.new
+FailsTexts form network report out f.NoMemory =
+    (RanOutOver network report ⊎ Accepts network report) × Keeps out.old out.new
 FailsTexts form network report out f.Write = BeginsToDraw form network report out
 
 -- Readers

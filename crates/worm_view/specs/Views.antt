@@ -1,5 +1,5 @@
 -- What is drawn, and why nothing is.
-use Rattle.std.specs.Prelude.{◌≡◌, ℕ, List, length, sum, Ok, Err}
+use Rattle.std.specs.Prelude.{◌≡◌, ℕ, ◌≤◌, List, length, sum, Ok, Err}
 use Rattle.worm_text.specs.declared.format.Format.{Format}
 use Rattle.worm_text.specs.Network.{Network, Keeps, text}
 use Rattle.worm_text.specs.Reader.{network_of}
@@ -7,7 +7,7 @@ use Rattle.worm_rows.specs.declared.shape.Shape.{Shape}
 use Rattle.worm_rows.specs.declared.rows.Row.{Row}
 use Rattle.worm_rows.specs.Rows.{rows_text}
 use Rattle.worm_rows.specs.Rules.{IsReport}
-use Rattle.worm_rows.specs.Report.{report_of}
+use Rattle.worm_rows.specs.Report.{report_of, BeginsReport}
 use Rattle.worm_view.specs.declared.fault.ViewFault.{ViewFault}
 use Rattle.worm_view.specs.declared.fault.ViewFault.TheVariants as f
 
@@ -26,15 +26,24 @@ pub record IsAccepted (network report : List ℕ) (n : Network) (s : Shape) (row
   pub rules : IsReport s rows
   pub written : report ≡ rows_text rows
 
--- a network text is accepted
-abbrev pub IsNetworkText : List ℕ → Type 0
-IsNetworkText network = (n : Network) × (format : Format) × Keeps format n × (network ≡ text format n)
+-- Memory ran out over the report: the network text is accepted, and the report begins with rows, one at least, of a
+-- report of a network of that shape.
+pub record RanOutOver (network report : List ℕ) : Type 0 where
+  pub said : Network
+  pub format : Format
+  pub keeps : Keeps format said
+  pub spelled : network ≡ text format said
+  pub shape : Shape
+  pub is_shape : IsShapeOf said shape
+  pub line : ℕ
+  pub some : 1 ≤ line
+  pub so_far : BeginsReport shape report line
 
--- The fault of the network text, and else that of the report, held against the shape of the network; a refused network
--- text is always told as such.
+-- The fault of the network text, and else that of the report, held against the shape of the network; a refused text is
+-- always told as such, unless memory ran out over it.
 abbrev pub IsRefused : List ℕ → List ℕ → ViewFault → Type 0
 IsRefused network report (f.Network t) = network_of network ≡ Err t
 IsRefused network report (f.Report t) =
     (n : Network) × (s : Shape) × (network_of network ≡ Ok n) × IsShapeOf n s × (report_of s report ≡ Err t)
-IsRefused network report f.NoMemory = IsNetworkText network
+IsRefused network report f.NoMemory = RanOutOver network report
 IsRefused network report _ = ⊥
