@@ -33,3 +33,6 @@ pub of_words : (s : ℕ) (fault : WordsFault) → s ≡ words_status fault → I
 of_words s (w.Words error) is = rw is (between 2 (omega arith) (omega arith))
 of_words s w.NotText is = rw is (between 2 (omega arith) (omega arith))
 of_words s w.NoMemory is = rw is (between 6 (omega arith) (omega arith))
+
+-- what the status of a call that ends the program tells
+pub ruleset statuses = (of_ended, of_words, of_refused)

@@ -95,7 +95,7 @@ fn refuse<R: Print + Eprint>(rt: &R, fault: WordsFault) -> ExitCode
 /// Reads the words, the program's name first, and runs the program that they ask for.
 ///
 /// Words that the parser's definition finds a fault in end with 2, or with 6 where memory ran out.
-#[tactic(auto, using(crate::proofs::Statuses::of_ended, crate::proofs::Statuses::of_words))]
+#[tactic(auto, using(crate::proofs::Statuses::statuses))]
 fn run_words<R: Files + Input + Print + Eprint + AllocGlobal, T: Threads + Wait + Sync>(
     rt: &R,
     threads: &T,
