@@ -77,7 +77,8 @@ IsRefusedAs network traffic f.Write = ⊥
 IsRefusedAs network traffic f.Workers = ⊥
 IsRefusedAs network traffic (f.NotStarted w) = ⊥
 
--- The texts are not both accepted, or memory ran out over the traffic text; a refused text is always told as such.
+-- The texts are not both accepted, or memory ran out at an entry of the traffic text. A refused network text is always
+-- told as such.
 abbrev pub IsNotAccepted : List ℕ → List ℕ → ProgramFault → Type 0
 IsNotAccepted network traffic (f.Network t) = IsRefusedAs network traffic (f.Network t)
 IsNotAccepted network traffic (f.Traffic t) = IsRefusedAs network traffic (f.Traffic t)

@@ -1,6 +1,6 @@
 -- What the program makes of two texts by several workers: the report of a network that their run may give.
 use Rattle.std.specs.Prelude.{ℕ, ◌≡◌, ◌<◌, ◌≤◌, ◌-◌, ◌==◌, ◌⊎◌, Bool, true, false, if◌then◌else◌, List, [], ◌∷◌}
-use Rattle.std.specs.Prelude.{length}
+use Rattle.std.specs.Prelude.{length, MatchResult, Result}
 use Rattle.std.specs.Prelude.{slice_index_or, All, find, option_map, Option, None, Some}
 use Rattle.std.specs.List.{list_any}
 use Rattle.std.specs.Io.KnownBytes.{Keeps, Appends}
@@ -29,8 +29,10 @@ use Rattle.worm_report.specs.Seen.{seen}
 use Rattle.worm_report.specs.Writing.{AreLines}
 use Rattle.worm_program.specs.declared.fault.ProgramFault.{ProgramFault}
 use Rattle.worm_program.specs.declared.fault.ProgramFault.TheVariants as f
-use Rattle.worm_program.specs.Programs.{FailsReading, GaveBoth, IsCutShort, IsRefusedAs, RanOutAtEntry, SaysNetwork}
-use Rattle.worm_program.specs.Programs.{SaysTraffic, Stream, WritesFront}
+use Rattle.worm_program.specs.declared.words.Options.{Options}
+use Rattle.worm_program.specs.Programs.{FailsAlone, FailsReading, GaveBoth, IsCutShort, IsRefusedAs, RanOutAtEntry}
+use Rattle.worm_program.specs.Programs.{ReportsAlone, SaysNetwork, SaysTraffic, Stream, WritesFront}
+use Rattle.worm_program.specs.Ranges.{plan_of}
 
 -- Stops
 
@@ -209,3 +211,13 @@ abbrev pub FailsByWorkers : (may_stop may_pass : ℕ → ℕ → Type 0) → Run
     → ProgramFault → Type 0
 FailsByWorkers may_stop may_pass plan drain first second out =
     FailsReading (FailsTogether may_stop may_pass plan drain out) first second out
+
+-- What a run of two texts by the options gave: with one worker what it gives on one thread.
+pub record RunsTexts (may_stop may_pass : ℕ → ℕ → Type 0) (options : Options) (first second out : Stream)
+    (result : Result (Unit {0}) ProgramFault) : Type 0 where
+  pub alone : options.workers ≡ 1 → MatchResult result
+      (λ _. ReportsAlone options.turns options.drain first second out)
+      (FailsAlone options.turns options.drain first second out)
+  pub together : 1 < options.workers → MatchResult result
+      (λ _. ReportsByWorkers may_stop may_pass (plan_of options) options.drain first second out)
+      (FailsByWorkers may_stop may_pass (plan_of options) options.drain first second out)

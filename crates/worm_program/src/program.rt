@@ -13,6 +13,7 @@ ghost use Rattle.worm_text.specs.ScriptView.{said_of};
 ghost use Rattle.worm_mesh.specs.Address.{node_count};
 ghost use Rattle.worm_program.specs.Ranges.{InRange, plan_of};
 ghost use Rattle.worm_program.specs.Together.{FailsByWorkers, FailsTogether, ReportsByWorkers, ReportsTogether};
+ghost use Rattle.worm_program.specs.Together.{RunsTexts};
 ghost use Rattle.worm_program.specs.Programs.{Fails, FailsAlone, FailsJoined, GaveBoth, IsNotAccepted, ReadsNot};
 ghost use Rattle.worm_program.specs.Programs.{Reports};
 ghost use Rattle.worm_program.specs.Programs.{ReportsAlone, ReportsJoined, SaysNetwork, SaysTraffic, WritesReport};
@@ -297,24 +298,10 @@ pub fn run_texts<R: Threads + Wait + Sync, N: Read, F: Read, G: Gate + Sync, W: 
     out: &mut W,
 ) -> Result<(), ProgramFault>
     requires { InRange options.now }
-    ensures alone { options.now.workers ≡ 1 → MatchResult result
-        (λ _. ReportsAlone options.now.turns options.now.drain
+    ensures { RunsTexts (G.may_stop gate.now) (G.may_pass gate.now) options.now
         (stream (N.remaining network.old) (N.remaining network.new))
         (stream (F.remaining traffic.old) (F.remaining traffic.new))
-        (stream (W.contents out.old) (W.contents out.new)))
-        (FailsAlone options.now.turns options.now.drain
-        (stream (N.remaining network.old) (N.remaining network.new))
-        (stream (F.remaining traffic.old) (F.remaining traffic.new))
-        (stream (W.contents out.old) (W.contents out.new))) }
-    ensures together { 1 < options.now.workers → MatchResult result
-        (λ _. ReportsByWorkers (G.may_stop gate.now) (G.may_pass gate.now) (plan_of options.now) options.now.drain
-        (stream (N.remaining network.old) (N.remaining network.new))
-        (stream (F.remaining traffic.old) (F.remaining traffic.new))
-        (stream (W.contents out.old) (W.contents out.new)))
-        (FailsByWorkers (G.may_stop gate.now) (G.may_pass gate.now) (plan_of options.now) options.now.drain
-        (stream (N.remaining network.old) (N.remaining network.new))
-        (stream (F.remaining traffic.old) (F.remaining traffic.new))
-        (stream (W.contents out.old) (W.contents out.new))) }
+        (stream (W.contents out.old) (W.contents out.new)) result }
 {
     if options.workers == 1 {
         return run_alone(alloc, network, traffic, options.turns, options.drain, out);
