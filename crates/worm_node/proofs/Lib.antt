@@ -1,4 +1,3 @@
 pub mod MadeGroups
 pub mod Pushed
 pub mod Sent
-pub mod ToFeed

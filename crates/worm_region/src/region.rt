@@ -196,14 +196,13 @@ impl Region {
         self.fabric.wires().flits_in(node)
     }
 
-    /// The classes of which the node's source has a flit that was not fed, but for those whose injection buffer is
-    /// known to be full.
+    /// The classes of which the node's source has a flit that was not fed.
     pub(crate) fn unfed(&self, node: u8) -> SmallSet
         requires { node < node_count self.now.mesh }
         ensures classes { Covers (NoFeed self.now node) (length self.now.channels) result }
         ensures sound { IsWorkable self.now }
     {
-        self.fabric.node(node).unfed()
+        self.fabric.node(node).source.unfed()
     }
 
     /// The channels of the node that owe a credit.
