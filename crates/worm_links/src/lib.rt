@@ -5,8 +5,8 @@
 //! whoever runs when: what was sent is what was taken, and then what the queue holds. The rule also says that what was
 //! sent is a history of the link. So the taker, who never sees what was sent, needs no check of what it takes.
 //!
-//! The queues are lock-free and bounded. Only making them takes memory. No call waits for room or for a flit. A push
-//! and a pop of what is left may wait within their queue, so it is not claimed that they return.
+//! The queues are lock-free and bounded. Only making them takes memory. A full queue and an empty one are answered at
+//! once. A push and a pop of what is left may wait within their queue, so it is not claimed that they return.
 #![tactic(auto)]
 
 mod apart;
