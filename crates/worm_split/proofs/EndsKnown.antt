@@ -8,7 +8,7 @@ use Rattle.worm_flit.specs.Worms.{Continues}
 use Rattle.worm_mesh.specs.Address.{neighbour_of, node_count, opposite_of}
 use Rattle.worm_mesh.specs.Links.{links_before, link_count}
 use Rattle.worm_mesh.proofs.Digits.{AreLarge-from_radices}
-use Rattle.worm_mesh.proofs.Neighbours.{Joins-from, Joins-back, neighbour_of-some, opposite_twice}
+use Rattle.worm_mesh.proofs.Neighbours.{Joins-from, Joins-back, neighbour_of-some}
 use Rattle.worm_links.specs.Links.{TxView, RxView, CreditTxView, CreditRxView, MayCross}
 use Rattle.worm_region.specs.State.{IsFramed, network_of, link_at, shape}
 use Rattle.worm_wires.specs.Wiring.{into_from, port_links}

@@ -157,8 +157,8 @@ module _ (p : PartState) (net : IsNet p.opening) (ways : List LinkEnds) (are : A
         let z = way_at ways k in
         let all = made.all in
         let within = way.within in
-        let had = made.each k (omega arith) (λ e. apart (subst (λ (i : ℕ). i % W ≡ x % W) way.from (subst (λ
-        (i : ℕ). z.from % W ≡ i % W) way.to e))) in
+        let had = (made.each k (omega arith)).between (λ e. apart (subst (λ (i : ℕ). i % W ≡ x % W) way.from
+        (subst (λ (i : ℕ). z.from % W ≡ i % W) way.to e))) in
         subst (λ (i : ℕ). AreEndsMade O.mesh O.channels O.depth y o (past_of (shape O) old y o i) line.out line.into)
         way.to
         (subst (λ (i : ℕ). AreEndsMade O.mesh O.channels O.depth y i (past_of

@@ -1,5 +1,5 @@
 -- Nodes whose numbers are a multiple of the number of workers apart have one owner.
-use Rattle.std.proofs.Common.{◌≡◌, ℕ, ◌+◌, ◌-◌, ◌*◌, ◌/◌, ◌%◌, ◌==◌, ◌<◌, false, inl, inr, length}
+use Rattle.std.proofs.Common.{◌≡◌, ℕ, ◌+◌, ◌-◌, ◌*◌, ◌/◌, ◌%◌, ◌==◌, ◌<◌, false, inl, inr, List, length}
 use Rattle.std.proofs.Common.{Option, Some, arith, ap, sym, subst, ◌∙◌, refl}
 use Rattle.std.proofs.Math.Nat.{add-mul-mod_self_left, div-add-mod}
 use Rattle.std.specs.Prelude.{IsSome}
@@ -7,8 +7,11 @@ use Rattle.worm_flit.specs.SmallSet.{has}
 use Rattle.worm_mesh.specs.Address.{neighbour_of, stride_of}
 use Rattle.worm_theory.proofs.Places.{number_cases}
 use Rattle.worm_region.specs.State.{IsFramed, NetState}
+use Rattle.worm_region.specs.Owned.{owned_by}
+use Rattle.worm_region.specs.declared.owner.Owner.{Owner}
 use Rattle.worm_region.proofs.LinksThere.{leader}
 use Rattle.worm_wires.proofs.StepsAdd.{step_down, step_up}
+use Rattle.worm_split.specs.PartState.{PartState, IsSamePart}
 use Rattle.worm_split.specs.PartTurns.{AreShared}
 
 same_rest : (y s w : ℕ) → s % w ≡ 0 → (y + s) % w ≡ y % w
@@ -41,3 +44,10 @@ are_shared net shared framed each x o y linked unnamed =
           ap (λ (r : ℕ). r == net.own.worker) (ap (λ (n : ℕ). n % net.own.workers) at
           ∙ same_rest x s net.own.workers rest)
     ]
+
+-- the ports of a part stay so while the part is the same
+pub still_shared : (old new : PartState) (shared : ℕ) → IsSamePart old new → AreShared old.net shared
+    → AreShared new.net shared
+still_shared old new shared same are x o y linked unnamed =
+    subst (λ (w : Owner). owned_by w y ≡ owned_by w x) (sym same.config.own)
+    (are x o y (subst (λ (mesh : List ℕ). neighbour_of mesh x o ≡ Some y) same.config.mesh linked) unnamed)

@@ -1,7 +1,7 @@
 -- The turn of a node in a worker's part: the turn of a node, in which what goes to another worker goes by the worker's
 -- end of the link, and what comes from one comes by it (Dally and Towles, chapters 13 and 16).
 use Rattle.std.specs.Prelude.{ℕ, ◌≡◌, ◌≤◌, ◌⊎◌, List, [], ◌∷◌, ◌++◌, length, filter, slice_set}
-use Rattle.std.specs.Prelude.{false, slice_index_or, Option, Some, None, IsSome}
+use Rattle.std.specs.Prelude.{false, slice_index_or, Option, Some, None}
 use Rattle.std.specs.Option.{option_to_list}
 use Rattle.worm_flit.specs.declared.Flit.{Flit}
 use Rattle.worm_flit.specs.SmallSet.{has}
@@ -18,7 +18,6 @@ use Rattle.worm_region.specs.Replies.{Attempts}
 use Rattle.worm_region.specs.Turns.{Each, PassageOf, ◌and_then◌}
 use Rattle.worm_region.specs.Turns.{ComesInBy, AsksSourceBy, Passage, Allocates, lowest_owed, mesh_ports}
 use Rattle.worm_region.specs.Turns.{all_ports, all_nodes}
-use Rattle.worm_region.specs.declared.fault.StepFault.{StepFault}
 use Rattle.worm_script.specs.declared.entry.Entry.{Entry}
 use Rattle.worm_split.specs.declared.ends.End.{End}
 use Rattle.worm_split.specs.declared.ends.End.TheVariants.{Leaving, Entering}

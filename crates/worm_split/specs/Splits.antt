@@ -16,16 +16,18 @@ use Rattle.worm_split.specs.declared.ends.End.TheVariants.{Inner}
 use Rattle.worm_split.specs.declared.ends.Line.{Line}
 use Rattle.worm_split.specs.declared.memory.Rooms.{Rooms}
 use Rattle.worm_split.specs.declared.memory.Seat.{Seat}
-use Rattle.worm_split.specs.Ends.{AreEndsMade, end_made, line_at}
+use Rattle.worm_split.specs.Ends.{AreEndsMade, end_made, line_at, no_line}
 use Rattle.worm_split.specs.Apart.{Apart, AreWays}
 use Rattle.worm_split.specs.Exchange.{way_at}
 use Rattle.worm_split.specs.PartState.{PartState, AreLines, HasConfigOf, end_of, owns, part_network}
 
--- both ends of a link as they are made, where its nodes are of two workers
-abbrev pub IsLineMade : NetState → ℕ → LinkEnds → Line → Type 0
-IsLineMade s workers way line = (way.from % workers ≡ way.to % workers → ⊥) →
-    AreEndsMade s.mesh s.channels s.depth way.from way.out_port
-    (past_of (shape s) (network_of s) way.from way.out_port way.to) line.out line.into
+-- both ends of a link as they are made: none where its nodes are of one worker, and those of queues of its own where
+-- they are of two
+pub record IsLineMade (s : NetState) (workers : ℕ) (way : LinkEnds) (line : Line) : Type 0 where
+  pub within : way.from % workers ≡ way.to % workers → line ≡ no_line
+  pub between : (way.from % workers ≡ way.to % workers → ⊥) →
+      AreEndsMade s.mesh s.channels s.depth way.from way.out_port
+      (past_of (shape s) (network_of s) way.from way.out_port way.to) line.out line.into
 
 pub record AreLinesMade (s : NetState) (workers : ℕ) (ways : List LinkEnds) (lines : List Line) : Type 0 where
   pub all : length lines ≡ length ways

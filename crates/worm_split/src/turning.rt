@@ -107,10 +107,12 @@ impl Part {
         self.region.arrive(node, port, flit);
     }
 
-    /// Asks for a credit of each link out of the node by one of these ports, rising.
+    /// Asks for a credit of each link out of the node by one of these ports, rising. The links by the others lead to no
+    /// other worker's node.
     fn pull_credits(&mut self, node: u8, shared: SmallSet)
         requires node { node < node_count self.old.net.mesh }
         requires own { owned self.old.net node ≡ true }
+        requires shared { AreShared self.old.net shared }
         ensures pulls { PullsCredits node self.old None self.new }
         ensures same { IsSamePart self.old self.new }
     {
@@ -120,10 +122,12 @@ impl Part {
         }
     }
 
-    /// Asks for a flit of each link into the node by one of these ports, rising.
+    /// Asks for a flit of each link into the node by one of these ports, rising. The links by the others come from no
+    /// other worker's node.
     fn pull_flits(&mut self, node: u8, shared: SmallSet)
         requires node { node < node_count self.old.net.mesh }
         requires own { owned self.old.net node ≡ true }
+        requires shared { AreShared self.old.net shared }
         ensures pulls { PullsFlits node self.old None self.new }
         ensures same { IsSamePart self.old self.new }
     {
@@ -336,6 +340,7 @@ impl Part {
     ) -> Result<(), StepFault>
         requires node { node < node_count self.old.net.mesh }
         requires own { owned self.old.net node ≡ true }
+        requires shared { AreShared self.old.net shared }
         ensures turn { NodeTurn entries.now node self.old (result_err result) self.new }
         ensures same { IsSamePart self.old self.new }
     {

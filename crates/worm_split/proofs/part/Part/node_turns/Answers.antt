@@ -15,6 +15,7 @@ use Rattle.worm_split.specs.PartTurns.{NodeTurn}
 use Rattle.worm_split.proofs.OwnNodes.{none_before, none_more, none_near}
 use Rattle.worm_region.proofs.Passages.{each_one}
 use Rattle.worm_split.proofs.PartLoops.{of_ending, of_next, same_on, same_still}
+use Rattle.worm_split.proofs.Sharing.{still_shared}
 use Rattle.worm_split.proofs.part.Part.node_turns.Goals as goal
 use Rattle.worm_split.proofs.part.Part.node_turns.Goals.{After-from-node, After-node_turn}
 use Rattle.worm_split.proofs.part.Part.node_turns.Given as given
@@ -46,6 +47,11 @@ loop-node-init g c =
           ∙ mod-eq_of_lt less;
       near = omega (arith, start, less);
     }
+
+pub node_turn-requires-clause-shared : goal.node_turn-requires-clause-shared
+node_turn-requires-clause-shared g c =
+    still_shared c.args.self.now c.loop-node.self c.shared_ports-shared.result c.loop-node.invariant.same
+    c.shared_ports-shared.ensures
 
 -- the turn of an own node, as the turns of the own ones among it alone
 one_turned : (g : given.Over) (c : After-node_turn g) (fault : Option StepFault)

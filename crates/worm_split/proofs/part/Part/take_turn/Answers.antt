@@ -1,4 +1,4 @@
-use Rattle.std.proofs.Common.{List, Option, subst, ◌∙◌}
+use Rattle.std.proofs.Common.{List, Option, subst}
 use Rattle.std.specs.Result.{result_err}
 use Rattle.worm_script.specs.Script.{due}
 use Rattle.worm_region.specs.State.{IsFramed}

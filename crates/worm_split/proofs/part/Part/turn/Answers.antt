@@ -1,6 +1,5 @@
 use Rattle.std.proofs.Common.{Some, ap}
 use Rattle.worm_script.specs.Script.{due}
-use Rattle.worm_region.specs.declared.fault.StepFault.{StepFault}
 use Rattle.worm_split.proofs.Placed.{turn_place}
 use Rattle.worm_split.proofs.part.Part.turn.Goals as goal
 
