@@ -1,6 +1,7 @@
 -- The line that the program says of a fault on the standard error, and the status that it ends with.
 use Rattle.std.specs.Prelude.{◌≡◌, ◌≢◌, ◌≤◌, ◌⊎◌, ℕ, List, ◌++◌, codes, decimal, Result, Ok, Err}
 use Rattle.clap.specs.Values.{kind_of}
+use Rattle.clap.specs.Words.{IsAmong, Kinds}
 use Rattle.clap.specs.declared.error.Error.{Error}
 use Rattle.clap.specs.declared.error.kind.ErrorKind.{ErrorKind}
 use Rattle.clap.specs.declared.error.kind.ErrorKind.TheVariants as clap
@@ -44,6 +45,16 @@ words_status (w.Words error) = 2
 words_status w.Both = 2
 words_status w.NotText = 2
 words_status w.NoMemory = 6
+
+-- the status of words with a fault of this kind: help and the version are answers, and anything else is the user's fault
+abbrev pub kind_status : ErrorKind → ℕ
+kind_status clap.DisplayHelp = 0
+kind_status clap.DisplayVersion = 0
+kind_status _ = 2
+
+-- words with these kinds of fault end with the status of one of them, or memory ran out
+abbrev pub EndsRefused : Kinds → ℕ → Type 0
+EndsRefused kinds status = (status ≡ 6) ⊎ ((kind : ErrorKind) × IsAmong kind kinds × (status ≡ kind_status kind))
 
 -- want of memory is answered as such, help and the version where they are asked for, and anything else that the parser
 -- says as what it says

@@ -11,9 +11,12 @@
 //! where this one reads only what the libraries below say of themselves.
 #![tactic(auto)]
 
-ghost use Rattle.std.specs.Prelude.{◌≡◌};
+ghost use Rattle.clap.specs.Walk.{texts};
+ghost use Rattle.clap.specs.Words.{fault_of, matches_of};
+ghost use Rattle.std.specs.Prelude.{◌≡◌, ◌≢◌, ◌⊎◌, []};
 ghost use Rattle.std.specs.Process.{exit_status};
-ghost use Rattle.worm_view.specs.Faults.{ended_status, words_status, IsStatus};
+ghost use Rattle.worm_view.specs.Commands.{command, AskBoth};
+ghost use Rattle.worm_view.specs.Faults.{ended_status, words_status, EndsRefused, IsStatus};
 
 mod fault;
 mod form;
@@ -81,9 +84,27 @@ fn refuse<R: Print + Eprint>(rt: &R, fault: WordsFault) -> ExitCode
     }
 }
 
+/// Reads the words, the program's name first, and runs the program that they ask for.
+///
+/// Words that the parser's definition finds a fault in end with 2, where they ask for help or the version with 0, and
+/// where memory ran out with 6. Words that ask for a map and for who waits have no fault there, and end with 2 or 6.
+#[tactic(auto, using(crate::proofs::Statuses::of_ended, crate::proofs::Statuses::of_words))]
+fn run_words<R: Files + Input + Print + Eprint + AllocGlobal>(rt: &R, words: &[&str]) -> ExitCode
+    ensures status { IsStatus (exit_status result) }
+    ensures refused { fault_of command (texts words.now) ≢ []
+        → EndsRefused (fault_of command (texts words.now)) (exit_status result) }
+    ensures both { fault_of command (texts words.now) ≡ [] → AskBoth (matches_of command (texts words.now))
+        → (exit_status result ≡ 2) ⊎ (exit_status result ≡ 6) }
+{
+    match read_words(rt.alloc(), words) {
+        Ok(words) => end(rt, run_file(rt, &words)),
+        Err(fault) => refuse(rt, fault),
+    }
+}
+
 /// Runs the program on the words of the command line. The status is 0 where the whole picture is out, or where the
 /// words ask for help or the version, 2 for wrong words, and else that of the fault that was said.
-#[tactic(auto, using(crate::proofs::Statuses::of_ended, crate::proofs::Statuses::of_words))]
+#[tactic(auto, using(crate::proofs::Statuses::of_words))]
 pub fn run<R: Env + Files + Input + Print + Eprint + AllocGlobal>(rt: &R) -> ExitCode
     ensures { IsStatus (exit_status result) }
 {
@@ -99,8 +120,5 @@ pub fn run<R: Env + Files + Input + Print + Eprint + AllocGlobal>(rt: &R) -> Exi
     else {
         return refuse(rt, WordsFault::NoMemory);
     };
-    match read_words(alloc, words.as_slice()) {
-        Ok(words) => end(rt, run_file(rt, &words)),
-        Err(fault) => refuse(rt, fault),
-    }
+    run_words(rt, words.as_slice())
 }
