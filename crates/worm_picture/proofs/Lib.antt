@@ -4,3 +4,5 @@ mod InMesh
 mod OneMore
 mod Names
 mod Tails
+mod Counted
+mod Moving

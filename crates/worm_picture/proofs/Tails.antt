@@ -66,7 +66,7 @@ is_eq-then Greater p = refl
 is_eq-nat : (a b : ℕ) → is_eq (nat_cmp a b) ≡ (b == a)
 is_eq-nat a b = grind (arith, nat_tests)
 
-same_test : (a b : PacketId) → is_eq (packet_cmp a b) ≡ same_packet b a
+pub same_test : (a b : PacketId) → is_eq (packet_cmp a b) ≡ same_packet b a
 same_test a b =
     is_eq-then (lane_cmp a.lane b.lane) (nat_cmp a.number b.number)
     ∙ (λ i. lanes i && is_eq-nat a.number b.number i) where
@@ -87,7 +87,7 @@ both_true false b e = absurd (cc)
 same_number : (a b : ℕ) → (a == b) ≡ true → a ≡ b
 same_number a b e = grind (arith, nat_tests, e)
 
-is_packet : (a b : PacketId) → same_packet a b ≡ true → a ≡ b
+pub is_packet : (a b : PacketId) → same_packet a b ≡ true → a ≡ b
 is_packet a b e =
     let parts = both_true _ (a.number == b.number) e in
     let lane = both_true (a.lane.src == b.lane.src) _ parts.0 in

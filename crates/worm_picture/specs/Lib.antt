@@ -4,3 +4,4 @@ pub mod Titles
 pub mod Ways
 pub mod Picture
 pub mod Packets
+pub mod Signs

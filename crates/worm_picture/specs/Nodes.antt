@@ -1,6 +1,7 @@
 -- What is shown of each node: the flits of the rows, place by place, and two counts.
-use Rattle.std.specs.Prelude.{ℕ, ◌≡◌, ◌<◌, ◌+◌, ◌*◌, Bool, true, false, ◌==◌, List, ◌++◌, map, length, All}
-use Rattle.std.specs.List.{filter, flat_map, range_with_len}
+use Rattle.std.specs.Prelude.{ℕ, ◌≡◌, ◌<◌, ◌+◌, ◌-◌, ◌*◌, ◌^◌, min, max, Bool, true, false, ◌==◌, List, ◌++◌, map}
+use Rattle.std.specs.Prelude.{length, vec_len, All}
+use Rattle.std.specs.List.{filter, flat_map, fold, range_with_len, sum_by}
 use Rattle.worm_mesh.specs.Address.{node_count}
 use Rattle.worm_core.specs.declared.view.Place.TheVariants.{Source}
 use Rattle.worm_rows.specs.declared.shape.Shape.{Shape}
@@ -46,6 +47,16 @@ pub record IsView (s : Shape) (rows : List Row) (tails : PacketId → ℕ) (flit
 pub record AreViews (s : Shape) (rows : List Row) (tails : PacketId → ℕ) (views : List NodeView) : Type 0 where
   pub nodes : map (λ v. v.node) views ≡ range_with_len 0 (node_count s.mesh)
   pub each : All (IsView s rows tails (seen_flits s.mesh rows)) views
+
+-- ---- counts
+
+-- how many flits the buffers of a node hold; the count goes no further than 64 bits do
+abbrev pub held_in : NodeView → ℕ
+held_in v = min (sum_by (λ s. vec_len s.held) v.stations.items) (2 ^ 64 - 1)
+
+-- the most that one of these nodes has, by such a count
+abbrev pub most_by : (NodeView → ℕ) → List NodeView → ℕ
+most_by count views = fold (λ most v. max most (count v)) 0 views
 
 -- ---- all that is shown
 

@@ -1,10 +1,12 @@
 -- What is known of a report's packets, and the tail of each.
-use Rattle.std.specs.Prelude.{ℕ, ◌&&◌, Bool, ◌==◌, if◌then◌else◌, List, Option, Some, None, max, fold}
+use Rattle.std.specs.Prelude.{ℕ, ◌&&◌, Bool, ◌==◌, if◌then◌else◌, List, [], ◌∷◌, Option, Some, None, max, fold}
+use Rattle.std.specs.Prelude.{is_some}
 use Rattle.std.specs.Option.{unwrap_or}
-use Rattle.std.specs.List.{filter_map}
+use Rattle.std.specs.List.{filter_map, list_any}
 use Rattle.std.specs.Ordering.{nat_cmp, ordering_then}
 use Rattle.std.specs.BTreeMap as tree
 use Rattle.std.specs.declared.cmp.Ordering.{Ordering}
+use Rattle.worm_core.specs.declared.view.Place.TheVariants.{Source}
 use Rattle.worm_text.specs.Traffic.{lane_cmp}
 use Rattle.worm_rows.specs.declared.rows.Load.{Load}
 use Rattle.worm_rows.specs.declared.rows.Load.TheVariants.{Close, Word}
@@ -48,3 +50,27 @@ last_with packet index other last = if same_packet other packet then max last in
 -- The greatest index of a packet's flits in the rows: its tail, since a packet is injected whole and loses no flit.
 abbrev pub tail_of : List Row → PacketId → ℕ
 tail_of rows packet = fold (λ last f. last_with f.0 f.1 packet last) 0 (filter_map place_of rows)
+
+-- ---- packets that move
+
+-- whether a packet was noted with a flit in a buffer or on a link
+abbrev pub moves_in : Packets → PacketId → Bool
+moves_in p packet = is_some (known p packet).sign
+
+-- the packet of a row's flit, if that is in a buffer or on a link
+abbrev pub moved_by : Row → Option PacketId
+moved_by (Underway packet index Source) = None
+moved_by (Underway packet index place) = Some packet
+moved_by _ = None
+
+-- whether these packets have this one among them
+abbrev pub has_packet : List PacketId → PacketId → Bool
+has_packet packets packet = list_any (same_packet packet) packets
+
+-- these packets with this one, which is there once
+abbrev pub with_packet : List PacketId → PacketId → List PacketId
+with_packet packets packet = if has_packet packets packet then packets else packet ∷ packets
+
+-- the packets with a flit in a buffer or on a link, each once
+abbrev pub moving_of : List Row → List PacketId
+moving_of rows = fold with_packet [] (filter_map moved_by rows)

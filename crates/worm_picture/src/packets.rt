@@ -1,9 +1,11 @@
 //! The packets of a report: which flit of each is its last, and how each is coloured.
 
-ghost use Rattle.std.specs.Prelude.{◌≡◌, IfOk, OnOk};
-ghost use Rattle.std.specs.Option.{option_map};
+ghost use Rattle.std.specs.Prelude.{◌≡◌, ◌+◌, ◌-◌, ◌^◌, ◌&&◌, ◌||◌, if◌then◌else◌, length, min, not, IfOk, None, OnOk};
+ghost use Rattle.std.specs.Prelude.{Some};
+ghost use Rattle.std.specs.Option.{option_and_then, option_map};
 ghost use Rattle.worm_rows.specs.declared.rows.PacketId.{PacketId};
-ghost use Rattle.worm_picture.specs.Packets.{known, last_with, place_of, tail_in, tail_of};
+ghost use Rattle.worm_picture.specs.Packets.{has_packet, known, last_with, moved_by, moves_in, moving_of};
+ghost use Rattle.worm_picture.specs.Packets.{place_of, same_packet, tail_in, tail_of};
 
 use std::alloc::{AllocError, Global};
 use std::collections::BTreeMap;
@@ -29,7 +31,8 @@ pub struct Packets {
 
 /// The packet of a row and the place of its flit in it, and whether the flit is in a buffer or on a link.
 fn flit_of(row: &Row) -> Option<(PacketId, u8, bool)>
-    ensures { option_map (λ f. (f.0, f.1)) result ≡ place_of row.now }
+    ensures place { option_map (λ f. (f.0, f.1)) result ≡ place_of row.now }
+    ensures moved { option_and_then (λ f. if f.2 then Some f.0 else None) result ≡ moved_by row.now }
 {
     match row {
         Row::Delivered { packet, load } => Some((
@@ -61,6 +64,9 @@ impl Packets {
     /// The packets of these rows.
     pub fn of(alloc: Global, rows: &[Row]) -> Result<Packets, AllocError>
         ensures tails { IfOk result (λ p. (packet : PacketId) → tail_in p packet ≡ tail_of rows.now packet) }
+        ensures signs { IfOk result
+            (λ p. (packet : PacketId) → moves_in p packet ≡ has_packet (moving_of rows.now) packet) }
+        ensures moving { IfOk result (λ p. p.moving ≡ min (length (moving_of rows.now)) (2 ^ 32 - 1)) }
     {
         let mut packets = Packets {
             packets: BTreeMap::new(alloc),
@@ -79,6 +85,11 @@ impl Packets {
     fn note(&mut self, packet: PacketId, index: u8, moves: bool) -> Result<(), AllocError>
         ensures tails { OnOk result ((other : PacketId)
             → tail_in self.new other ≡ last_with packet index other (tail_in self.old other)) }
+        ensures signs { OnOk result ((other : PacketId)
+            → moves_in self.new other ≡ (moves_in self.old other || (moves && same_packet other packet))) }
+        ensures moving { OnOk result (self.new.moving
+            ≡ (if moves && not (moves_in self.old packet) then min (self.old.moving + 1) (2 ^ 32 - 1)
+            else self.old.moving)) }
     {
         let mut known = self.get(packet);
         known.last = known.last.max(index);
@@ -104,7 +115,9 @@ impl Packets {
     }
 
     /// How many packets have a flit in a buffer or on a link.
-    pub fn moving(&self) -> u32 {
+    pub fn moving(&self) -> u32
+        ensures { result ≡ self.now.moving }
+    {
         self.moving
     }
 }

@@ -2,6 +2,7 @@
 
 ghost use Rattle.std.specs.Prelude.{◌≡◌, ◌≤◌, true};
 ghost use Rattle.worm_picture.specs.Picture.{lacks};
+ghost use Rattle.worm_picture.specs.Signs.{shape_of};
 
 use crate::svg::Frame;
 
@@ -54,6 +55,7 @@ pub fn way_of(index: u8) -> &'static str
 /// The shape of a flit: its part in its packet.
 pub fn shape_of(index: u8, last: u8) -> &'static str
     ensures plain { lacks 60 result.now ≡ true }
+    ensures shape { result.now ≡ shape_of index last }
 {
     if index == 0 && last == 0 {
         "single"

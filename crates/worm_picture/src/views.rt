@@ -3,7 +3,7 @@
 ghost use Rattle.std.specs.Prelude.{◌≡◌, IfOk, IsPermutation, map, All};
 ghost use Rattle.worm_picture.specs.Nodes as spec;
 ghost use Rattle.worm_rows.specs.Rules.{IsReport};
-ghost use Rattle.worm_picture.specs.Nodes.{AreViews, IsStation, IsView, shown};
+ghost use Rattle.worm_picture.specs.Nodes.{AreViews, IsStation, IsView, held_in, most_by, shown};
 ghost use Rattle.worm_picture.specs.Packets.{tail_in};
 ghost use Rattle.worm_picture.specs.Scene.{seen_flits as flits_of_rows};
 
@@ -38,9 +38,12 @@ pub struct NodeView {
 
 impl NodeView {
     /// How many flits its buffers hold.
-    pub fn held(&self) -> usize {
+    pub fn held(&self) -> usize
+        ensures { result ≡ held_in self.now }
+    {
+        let stations = self.stations.as_slice();
         let mut held = 0usize;
-        for station in self.stations.as_slice() {
+        for station in stations {
             held = held.saturating_add(station.held.len());
         }
         held
@@ -57,7 +60,10 @@ pub struct Most {
 }
 
 /// The most that one of these nodes has.
-pub fn most_of(views: &[NodeView]) -> Most {
+pub fn most_of(views: &[NodeView]) -> Most
+    ensures held { result.held ≡ most_by held_in views.now }
+    ensures arrived { result.arrived ≡ most_by (λ v. v.arrived) views.now }
+{
     let mut most = Most {
         held: 0,
         arrived: 0,
