@@ -29,6 +29,19 @@ pub const REPORT: &[u8] = b"wormreport 1\n\
 pub const MAP: &str = "   .      1<  \n\nThe fullest buffers:\n\
      node 1 port 2 channel 0: 1 flits, at the front 1 to 0 class 0 packet 0 flit 1, which leaves by port 0 <\n";
 
+/// A packet that fills a buffer, in a run of which a worker was stopped.
+const STOPPED: &[u8] = b"wormreport 1\n\
+      turns 9 workers 2 drain 0\n\
+      stopped worker 1 turn 5\n\
+      underway 1 0 class 0 packet 0 flit 0 buffer 1 2 0\n\
+      underway 1 0 class 0 packet 0 flit 1 buffer 1 2 0\n\
+      not offered 0\n\
+      total injected 2 delivered 0 underway 2\n";
+
+/// Its map.
+const MAP_OF_STOPPED: &str = "   .      2<  \n\nThe fullest buffers:\n\
+     node 1 port 2 channel 0: 2 flits, at the front 1 to 0 class 0 packet 0 flit 0, which leaves by port 0 <\n";
+
 /// The fault of a text in which nothing is said.
 const EMPTY: TextFault = TextFault {
     line: 1,
@@ -58,13 +71,18 @@ fn are_bytes(rt: &impl Abort, bytes: &[u8], wanted: &[u8]) {
 }
 
 /// What the network and the report say.
-fn accepted(rt: &impl Abort, alloc: Global) -> Accepted {
-    accept(alloc, TWO_NODES, REPORT).expect(rt, "accepted texts")
+fn accepted(rt: &impl Abort, alloc: Global, report: &[u8]) -> Accepted {
+    accept(alloc, TWO_NODES, report).expect(rt, "accepted texts")
+}
+
+/// The picture of the packet on its way and the one that waits, or their map.
+pub fn drawing(rt: &impl Abort, alloc: Global, text: bool) -> String {
+    drawing_of(rt, alloc, REPORT, text)
 }
 
 /// The picture of the report, or its map.
-pub fn drawing(rt: &impl Abort, alloc: Global, text: bool) -> String {
-    let accepted = accepted(rt, alloc);
+fn drawing_of(rt: &impl Abort, alloc: Global, report: &[u8], text: bool) -> String {
+    let accepted = accepted(rt, alloc, report);
     let rows = accepted.rows.as_slice();
     let drawn = draw(alloc, &accepted.shape, accepted.config.depth, rows, text);
     drawn.expect(rt, "a drawing")
@@ -100,6 +118,18 @@ fn write_map<W: Write>(alloc: Global, out: &mut W) -> Result<(), ViewFault> {
 #[test]
 fn a_map(rt: HostRuntime) {
     assert_eq!(rt; drawing(&rt, rt.alloc(), true).as_str(), MAP);
+}
+
+#[test]
+fn a_map_of_a_full_buffer(rt: HostRuntime) {
+    let map = drawing_of(&rt, rt.alloc(), STOPPED, true);
+    assert_eq!(rt; map.as_str(), MAP_OF_STOPPED);
+}
+
+#[test]
+fn a_picture_says_who_was_stopped(rt: HostRuntime) {
+    let picture = drawing_of(&rt, rt.alloc(), STOPPED, false);
+    has(&rt, picture.as_str(), "worker 1 stopped in turn 5");
 }
 
 /// The flit on the link is a head and that in the buffer its tail; the third waits in the source.
