@@ -72,13 +72,3 @@ pub owner-here : (counts : List ℕ) (i c : ℕ) → i < length counts → c < g
 owner-here [] i c there below = absurd (omega arith)
 owner-here (n ∷ ns) zero c there below = let test : nat_lt c n ≡ true = grind arith in rw test refl
 owner-here (n ∷ ns) (suc i) c there below = owner-here ns i c (omega arith) below
-
-pub owner-past : (counts : List ℕ) (i j c : ℕ) → j ≡ i + 1 → i < length counts → get_or counts i 0 ≤ c
-    → owner_of (drop i counts) c ≡ owner_of (drop j counts) (c - get_or counts i 0) + 1
-owner-past [] i j c next there past = absurd (omega arith)
-owner-past (n ∷ ns) zero j c next there past =
-    let test : nat_lt c n ≡ false = grind arith in
-    let one : j ≡ 1 = omega arith in
-    rw (test, one) (omega arith)
-owner-past (n ∷ ns) (suc i) zero c next there past = absurd (omega arith)
-owner-past (n ∷ ns) (suc i) (suc j) c next there past = owner-past ns i j c (omega arith) (omega arith) past

@@ -50,11 +50,6 @@ continues_latest [] f h m = (tt, tt)
 continues_latest (x ∷ []) f h m = (m, (tt, tt))
 continues_latest (x ∷ y ∷ ys) f h m = (h.0, continues_latest (y ∷ ys) f h.1 m)
 
-pub follows_latest : (xs : List Flit) (f : Flit) → Continues xs f → MayFollow (latest xs) f
-follows_latest [] f h = tt
-follows_latest (x ∷ []) f h = h.0
-follows_latest (x ∷ y ∷ ys) f h = follows_latest (y ∷ ys) f h.1
-
 pub latest-push : (xs : List Flit) (f : Flit) → latest (xs ++ f ∷ []) ≡ Some f
 latest-push [] f = refl
 latest-push (x ∷ []) f = refl

@@ -7,12 +7,11 @@ use Rattle.worm_flit.specs.declared.Flit.{Flit}
 use Rattle.worm_mesh.specs.Address.{neighbour_of, node_count}
 use Rattle.worm_mesh.proofs.Digits.{AreLarge, AreLarge-from_radices}
 use Rattle.worm_mesh.proofs.Neighbours.{Joins-from}
-use Rattle.worm_router.specs.Router.{IsPlace, input_at, is_idle, leaving}
+use Rattle.worm_router.specs.Router.{input_at, is_idle}
 use Rattle.worm_router.specs.Busy.{IsSetOf, is_occupied, lacks_route}
 use Rattle.worm_theory.specs.Steps.{IsPort, IsThere, Send}
 use Rattle.worm_region.specs.Shape.{net_shape}
-use Rattle.worm_region.specs.State.{NetState, IsFramed, IsNetPlace, node_at, router_at, shape}
-use Rattle.worm_node.specs.declared.node.Node.{Node}
+use Rattle.worm_region.specs.State.{NetState, IsFramed, IsNetPlace, router_at, shape}
 use Rattle.worm_region.specs.Turns.{AreThere}
 use Rattle.worm_region.specs.Workable.{IsKept, IsWorkable}
 use Rattle.worm_region.proofs.AsListed.{buffer_there}
@@ -55,16 +54,6 @@ pub place_inside : (s seen : NetState) (x p v : ℕ) → s ≡ seen → IsFramed
 place_inside s seen x p v same framed there_seen =
     let there = subst (λ (t : NetState). IsThere (shape t) (Send x p v)) (sym same) there_seen in
     net_place s x p v framed there.0 there.1 there.2
-
--- and of the node's router, as it is asked for a flit that may leave the channel
-pub asked_inside : (s seen : NetState) (x p v : ℕ) (node : Node) → s ≡ seen → IsFramed s
-    → IsThere (shape seen) (Send x p v) → IsSome (leaving (router_at seen x) p v) → node ≡ node_at s x
-    → IsPlace node.router p v × IsSome (leaving node.router p v)
-asked_inside s seen x p v node same framed there ready is = (
-  subst (λ (n : Node). IsPlace n.router p v) (sym is) (place_inside s seen x p v same framed there).place,
-  subst (λ (n : Node). IsSome (leaving n.router p v)) (sym is)
-      (subst (λ (t : NetState). IsSome (leaving (router_at t x) p v)) (sym same) ready),
-)
 
 -- a channel with a flit is there
 pub flit_there : (s : NetState) (x p v : ℕ) (f : Flit) (rest : List Flit) → IsWorkable s → x < node_count s.mesh

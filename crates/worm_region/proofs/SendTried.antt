@@ -1,7 +1,6 @@
 -- What a Send needs of a region's lists where its place is there, and what it answers.
-use Rattle.std.proofs.Common.{◌≡◌, ℕ, ◌*◌, false, length, List, Option, None, Some, Ok, is_some, refl, ap, subst, sym}
+use Rattle.std.proofs.Common.{◌≡◌, ℕ, ◌*◌, length, List, ap, subst, sym}
 use Rattle.std.specs.Prelude.{Result}
-use Rattle.worm_flit.specs.declared.Flit.{Flit}
 use Rattle.worm_router.specs.Router.{leaving, terminal}
 use Rattle.worm_theory.specs.Steps.{Send, IsThere}
 use Rattle.worm_region.specs.State.{NetState, IsNetPlace, router_at, shape, sink_at}
@@ -9,7 +8,6 @@ use Rattle.worm_region.specs.Moves.{LeavesByLink, Sends}
 use Rattle.worm_region.specs.Replies.{Replies}
 use Rattle.worm_region.specs.Workable.{IsWorkable, owned}
 use Rattle.worm_region.specs.declared.step.Moved.{Moved}
-use Rattle.worm_region.specs.declared.step.Moved.TheVariants.{Idle}
 use Rattle.worm_region.specs.declared.fault.StepFault.{StepFault}
 use Rattle.worm_region.proofs.PlacesThere.{net_place}
 use Rattle.worm_region.proofs.ReachedBySteps.{answered_inside}
@@ -40,9 +38,3 @@ is_tried s seen x p v same net there_seen within_seen =
       answers = λ answer new sends.
           answered_inside s seen new (Send x p v) answer same (send_answers s x p v net within there answer new sends);
     }
-
--- and none is sent where none may leave
-pub none_sent : (s : NetState) (x p v : ℕ) (leaves : Option (ℕ × Flit)) → is_some leaves ≡ false
-    → Sends s x p v leaves (Ok Idle) s
-none_sent s x p v None none = refl
-none_sent s x p v (Some d) none = absurd (cc)

@@ -88,12 +88,6 @@ if_passed (Err x) fault P h on = λ want. on (sym h ∙ want)
 
 -- ---- bytes
 
-pub given_all : {a b : Option (List ℕ)} (bytes front rest : List ℕ) → length rest ≡ 0 → bytes ≡ front ++ rest
-    → Appends a b front → Writes a b done bytes
-given_all bytes front [] none whole given =
-    record { front = front; rest = []; whole = whole; given = given; all = refl; fault = tt }
-given_all bytes front (b ∷ bs) none whole given = absurd (omega arith)
-
 -- one turn of the loop that gives what is left
 pub given_more : (a b c : Option (List ℕ)) (bytes front rest : List ℕ) (n : ℕ) → bytes ≡ front ++ rest
     → Appends a b front → Appends b c (take n rest)

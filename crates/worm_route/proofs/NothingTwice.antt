@@ -21,10 +21,6 @@ not_in_front [] back b d = tt
 not_in_front (p ∷ front) back b d =
     ((λ e. apart_within p b front back d.0 (sym e)), not_in_front front back b d.1)
 
-pub not_in_back : {P : Type 0} (front back : List P) (b : P) → IsDistinct (front ++ b ∷ back) → IsNotIn b back
-not_in_back [] back b d = d.0
-not_in_back (p ∷ front) back b d = not_in_back front back b d.1
-
 second_apart : {P : Type 0} (p a b : P) (front back : List P) → IsNotIn p (front ++ a ∷ b ∷ back) → p ≢ b
 second_apart p a b [] back n = n.1.0
 second_apart p a b (q ∷ front) back n = second_apart p a b front back n.1

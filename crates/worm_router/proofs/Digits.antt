@@ -1,15 +1,10 @@
 -- The port of a route by the lowest digits of its ends.
-use Rattle.std.proofs.Common.{ℕ, ◌≡◌, ◌+◌, ◌%◌, ◌<◌, true, false, List, [], ◌∷◌, length, slice_index, cond, nat_lt}
-use Rattle.std.proofs.Common.{◌==◌, ◌≤◌, ◌/◌, suc, refl, arith, ap, sym, ◌∙◌}
+use Rattle.std.proofs.Common.{ℕ, ◌≡◌, ◌+◌, ◌%◌, ◌<◌, true, false, List, [], ◌∷◌, length, cond, nat_lt}
+use Rattle.std.proofs.Common.{◌==◌, ◌≤◌, ◌/◌, suc, arith, ap, sym, ◌∙◌}
 use Rattle.std.proofs.lemmas.Bool.Decides.{nat_tests}
 use Rattle.std.proofs.Math.Nat.{mod-eq_of_lt, mod_self, suc-mod}
 use Rattle.worm_mesh.specs.Address.{address_of, digit_of}
 use Rattle.worm_route.specs.Route.{port_from, port_of}
-
--- the lowest digit of a number
-pub lowest_digit : (ks : List ℕ) (n : ℕ) → 0 < length ks → digit_of ks n 0 ≡ n % slice_index ks 0
-lowest_digit [] n some = absurd (omega (arith, some))
-lowest_digit (k ∷ ks) n some = refl
 
 -- where the lowest digits differ, the route goes through dimension 0, up where that of the destination is above
 port_by : (ks : List ℕ) (here dst : ℕ) → 0 < length ks → (digit_of ks here 0 == digit_of ks dst 0) ≡ false

@@ -6,14 +6,13 @@ use Rattle.std.proofs.Math.ListN.{length-set}
 use Rattle.std.proofs.lemmas.Bool.{cases_eq, cases_lt}
 use Rattle.std.proofs.lemmas.List.{get_or_read, get_or-set_other, get_or-set_same}
 use Rattle.worm_mesh.specs.declared.mesh.LinkEnds.{LinkEnds}
-use Rattle.worm_mesh.specs.Links.{link_count}
 use Rattle.worm_theory.proofs.Places.{number_cases}
 use Rattle.worm_region.specs.State.{NetState, IsFramed}
 use Rattle.worm_wires.specs.Links.{LinkView, blank_link}
 use Rattle.worm_split.specs.declared.ends.Line.{Line}
 use Rattle.worm_split.specs.declared.ends.End.{End}
 use Rattle.worm_split.specs.declared.ends.End.TheVariants.{Inner, Leaving, Entering}
-use Rattle.worm_split.specs.Apart.{Apart, AreWays, Fits, with_lists}
+use Rattle.worm_split.specs.Apart.{Apart, Fits, with_lists}
 use Rattle.worm_split.specs.Ends.{line_at, no_line}
 use Rattle.worm_split.specs.Exchange.{way_at}
 use Rattle.worm_split.proofs.Exchanged.{framed_with}
@@ -52,18 +51,6 @@ emptied_framed workers old links fits emptied =
     ] in
     framed_with old.net old.net.nodes links fits.framed refl emptied.same_length fits.framed.each_node
     (λ k there. let was = fits.framed.rooms k there in let same = room k there in omega arith)
-
--- emptied, the lists fit as before
-pub emptied_fits : (workers : ℕ) (old new : Apart) → Fits old → LinesSoFar workers (length old.ways) old new → Fits new
-emptied_fits workers old new fits so_far =
-    let mesh : new.net.mesh ≡ old.net.mesh = ap (λ (s : NetState). s.mesh) so_far.rest in
-    record {
-      framed = subst IsFramed (sym so_far.rest) (emptied_framed workers old new.net.links fits so_far.emptied);
-      all_owned = ap (λ (s : NetState). s.own) so_far.rest ∙ fits.all_owned;
-      ways = subst (λ (m : List ℕ). AreWays m new.ways) (sym mesh)
-          (subst (λ (ways : List LinkEnds). AreWays old.net.mesh ways) (sym so_far.ways) fits.ways);
-      all_lines = so_far.lines_length ∙ (fits.all_lines ∙ ap link_count (sym mesh));
-    }
 
 module _ (workers k : ℕ) (old now : Apart) (fits : Fits old) (so_far : LinesSoFar workers k old now) (way : LinkEnds)
     (line new_line : Line) (link new_link : LinkView) (inside : Bool) (there : k < length old.ways)

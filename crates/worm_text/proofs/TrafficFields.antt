@@ -154,10 +154,6 @@ words_take before (f ∷ fs) ws le e =
       count = r.count;
     }
 
-pub record Entered (n : Network) (before : List Said) (l : List ℕ) (e : Said) : Type 0 where
-  pub line-is : l ≡ entry_line n e
-  pub keeps : IsEntry n before e
-
 -- a line that is judged to be an entry
 pub send_takes : (n : Network) (before : List Said) (fields : List (List ℕ)) (e : Said) → node_count n.radices ≤ 256
     → length before < 10000 → send_at n (last_turn before) (is_closed before) fields ≡ fine e

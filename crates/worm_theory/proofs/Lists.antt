@@ -1,5 +1,5 @@
 -- What each step keeps, any list of steps keeps.
-use Rattle.std.proofs.Common.{◌≡◌, List, [], ◌∷◌, ◌++◌, inl, inr, refl, sym, subst, ◌∙◌}
+use Rattle.std.proofs.Common.{◌≡◌, List, [], ◌∷◌, ◌++◌, inl, inr, sym, subst, ◌∙◌}
 use Rattle.worm_theory.specs.Shape.{Shape}
 use Rattle.worm_theory.specs.Network.{Network}
 use Rattle.worm_theory.specs.Steps.{Step, StepsTo, StepsLead, EachStepKeeps, AnyStepsKeep}
@@ -40,10 +40,3 @@ pub steps-append : (s : Shape) (first then : List Step) (old mid new : Network) 
     → StepsLead s mid then new → StepsLead s old (first ++ then) new
 steps-append s [] then old mid new h g = subst (λ net. StepsLead s net then new) h g
 steps-append s (step ∷ steps) then old mid new h g = (h.0, h.1, steps-append s steps then h.0 mid new h.2 g)
-
-pub steps-split : (s : Shape) (first then : List Step) (old new : Network) → StepsLead s old (first ++ then) new
-    → (mid : Network) × StepsLead s old first mid × StepsLead s mid then new
-steps-split s [] then old new h = (old, refl, h)
-steps-split s (step ∷ steps) then old new h =
-    let rest = steps-split s steps then h.0 new h.2 in
-    (rest.0, (h.0, h.1, rest.1), rest.2)

@@ -67,37 +67,6 @@ impl Ground {
         self.note(seen);
     }
 
-    /// The source takes a packet of this word on the lane, and feeds it.
-    fn send(&mut self, lane: Lane, word: u32) {
-        let node = lane.src;
-        match Packet::new(lane, &[word]) {
-            Ok(packet) => {
-                self.take(&[Step::Offer { node, packet }, Step::Feed { node, class: 0 }])
-            }
-            Err(_) => self.note(Seen::Wrong),
-        }
-    }
-
-    /// A flit at this port of the node is let out, on channel 0.
-    fn pass(&mut self, node: u8, port: u8) {
-        let (vc, out_vc) = (0, 0);
-        self.take(&[
-            Step::Route { node, port, vc },
-            Step::Grant {
-                node,
-                port,
-                vc,
-                out_vc,
-            },
-            Step::Send { node, port, vc },
-        ]);
-    }
-
-    /// The flit on the link into this port of the node is taken.
-    fn receive(&mut self, node: u8, port: u8) {
-        self.take(&[Step::Take { node, port }]);
-    }
-
     /// The flit of word 7 from node 0 to node 8 stands there.
     fn stands_at(&mut self, place: Place) {
         let seen = match view(self.alloc, &self.net, lane(0, 8)) {
@@ -107,21 +76,20 @@ impl Ground {
         self.note(seen);
     }
 
-    /// The lane's source is asked to close it.
-    fn close(&mut self, lane: Lane) {
-        let node = lane.src;
-        self.take(&[Step::Close { node, lane }]);
-    }
-
-    /// A packet on the lane is refused, since the lane was closed.
-    fn refuse(&mut self, lane: Lane) {
+    /// The lane's source is asked to close it and then for a packet on it, which it refuses, since the lane was closed.
+    fn close_and_send(&mut self, lane: Lane) {
         let Ok(packet) = Packet::new(lane, &[5]) else {
             return self.note(Seen::Wrong);
         };
         let node = lane.src;
-        let late = self.tried(&[Step::Offer { node, packet }]);
+        let steps = [Step::Close { node, lane }, Step::Offer { node, packet }];
+        let mut so_far = self.tried(&steps);
+        if so_far.fault == Some(StepFault::NoMemory) {
+            self.note(Seen::Refused.only_if(so_far.done == 0));
+            so_far = self.tried(&steps);
+        }
         let closed = Some(StepFault::Refused(OfferFault::LaneClosed));
-        self.note(Seen::Whole.only_if(late.done == 0 && late.fault == closed));
+        self.note(Seen::Whole.only_if(so_far.done == 1 && so_far.fault == closed));
     }
 
     /// One flit was accepted.
@@ -149,17 +117,58 @@ fn link(node: u8, port: u8) -> Place {
     Place::Link { node, port, vc: 0 }
 }
 
+/// The channel 0 of this port of the node is routed.
+fn route(node: u8, port: u8) -> Step {
+    Step::Route { node, port, vc: 0 }
+}
+
+/// It is granted channel 0.
+fn grant(node: u8, port: u8) -> Step {
+    let (vc, out_vc) = (0, 0);
+    Step::Grant {
+        node,
+        port,
+        vc,
+        out_vc,
+    }
+}
+
+/// Its front flit is let out.
+fn send(node: u8, port: u8) -> Step {
+    Step::Send { node, port, vc: 0 }
+}
+
+/// The flit on the link into this port of the node is taken.
+fn take(node: u8, port: u8) -> Step {
+    Step::Take { node, port }
+}
+
+/// From node 0 by node 1 into the buffer of node 2, at the corner.
+fn go_to_the_corner(ground: &mut Ground) {
+    let Ok(packet) = Packet::new(lane(0, 8), &[7]) else {
+        return ground.note(Seen::Wrong);
+    };
+    ground.take(&[
+        Step::Offer { node: 0, packet },
+        Step::Feed { node: 0, class: 0 },
+        route(0, 4),
+        grant(0, 4),
+        send(0, 4),
+        take(1, 0),
+        route(1, 0),
+        grant(1, 0),
+        send(1, 0),
+        take(2, 0),
+    ]);
+}
+
 /// From node 0 by nodes 1 and 2 to node 5.
 fn go_round(ground: &mut Ground) {
-    ground.send(lane(0, 8), 7);
-    ground.pass(0, 4);
-    ground.receive(1, 0);
-    ground.pass(1, 0);
-    ground.receive(2, 0);
+    go_to_the_corner(ground);
     ground.stands_at(buffer(2, 0));
-    ground.pass(2, 0);
+    ground.take(&[route(2, 0), grant(2, 0), send(2, 0)]);
     ground.stands_at(link(2, 3));
-    ground.receive(5, 2);
+    ground.take(&[take(5, 2)]);
     ground.stands_at(buffer(5, 2));
 }
 
@@ -178,8 +187,7 @@ pub fn round_the_corner(alloc: Global) -> Seen {
 pub fn closed_lane(alloc: Global) -> Seen {
     match Ground::new(alloc, TWO_NODES) {
         Ok(mut ground) => {
-            ground.close(lane(0, 1));
-            ground.refuse(lane(0, 1));
+            ground.close_and_send(lane(0, 1));
             ground.has_one();
             ground.seen
         }

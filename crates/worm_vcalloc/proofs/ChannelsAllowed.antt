@@ -1,11 +1,9 @@
 -- Lemmas on an input channel that is filed for each channel that it allows.
 use Rattle.std.proofs.Common.{◌≡◌, ℕ, ◌<◌, ◌||◌, ◌&&◌, Bool, true, false, not, List, slice_index_or, slice_set, length}
 use Rattle.std.proofs.Common.{get_or-set_same, get_or-set_other, refl, sym, ap, ◌∙◌, inl, inr}
-use Rattle.std.proofs.lemmas.Bool.{cases_eq, eq-eqb, true≢false}
+use Rattle.std.proofs.lemmas.Bool.{cases_eq, true≢false}
 use Rattle.std.proofs.lemmas.List.{get_or_default}
 use Rattle.worm_flit.specs.SmallSet as small
-use Rattle.worm_flit.proofs.SmallSets.{has_none}
-use Rattle.worm_vcalloc.specs.Asked.{AreAllowed}
 use Rattle.worm_vcalloc.specs.ChannelSet.{has, IsPut}
 
 -- it is filed for each channel that it allows but those that are left
@@ -16,29 +14,11 @@ pub record AreAllowedBut (old new : List ℕ) (port vc allowed left : ℕ) : Typ
       → has (slice_index_or new channel 0) p v ≡ has (slice_index_or old channel 0) p v
   pub kept : (channel : ℕ) → channel < 8 → small.has left channel ≡ true → small.has allowed channel ≡ true
 
-or_neither : (b a : Bool) → b ≡ (b || (a && not a))
-or_neither true a = refl
-or_neither false true = refl
-or_neither false false = refl
-
 or_both : (b a l : Bool) → a ≡ true → l ≡ false → true ≡ (b || (a && not l))
 or_both true a l e e' = refl
 or_both false true false e e' = refl
 or_both false false l e e' = absurd (cc)
 or_both false true true e e' = absurd (cc)
-
-or_all : (b a l : Bool) → l ≡ false → (b || (a && not l)) ≡ (b || a)
-or_all true a l e = refl
-or_all false true false e = refl
-or_all false false l e = refl
-or_all false true true e = absurd (cc)
-
-pub allowed_start : (sets : List ℕ) (port vc allowed : ℕ) → AreAllowedBut sets sets port vc allowed allowed
-allowed_start sets port vc allowed = record {
-  here = λ channel below. or_neither (has (slice_index_or sets channel 0) port vc) (small.has allowed channel);
-  elsewhere = λ channel p v below lp lv apart. refl;
-  kept = λ channel below e. e;
-}
 
 -- it is put into the set of the first channel that is left
 pub allowed_more : (old new : List ℕ) (port vc allowed left left' channel d set : ℕ)
@@ -70,14 +50,4 @@ allowed_more old new port vc allowed left left' channel d set b f long put = rec
     | inl same ↦ absurd (true≢false (sym e ∙ ap (small.has left') same ∙ f.taken.here))
     | inr other ↦ b.kept k below (sym (f.taken.elsewhere k below other) ∙ e)
   ];
-}
-
--- all are filed
-pub allowed_all : (old new : List ℕ) (port vc allowed left : ℕ) → AreAllowedBut old new port vc allowed left
-    → left ≡ 0 → AreAllowed old new port vc allowed
-allowed_all old new port vc allowed left b none = record {
-  here = λ channel below. b.here channel below
-      ∙ or_all (has (slice_index_or old channel 0) port vc) (small.has allowed channel) (small.has left channel)
-      (has_none left channel (eq-eqb left 0 none));
-  elsewhere = b.elsewhere;
 }

@@ -1,13 +1,13 @@
 -- Lemmas on sets of channels: what the operations on words do to their members.
 use Rattle.std.proofs.Common.{◌≡◌, ℕ, ◌+◌, ◌-◌, ◌*◌, ◌/◌, ◌%◌, ◌^◌, ◌<◌, ◌≤◌, Bool, true, false, refl, ◌==◌, not, ◌&&◌}
-use Rattle.std.proofs.Common.{◌||◌, bit_and, bit_or, min, max, sym, ap, ◌∙◌, subst, arith, inl, inr}
+use Rattle.std.proofs.Common.{◌||◌, bit_and, bit_or, min, sym, ap, ◌∙◌, subst, arith, inl, inr}
 use Rattle.std.specs.Int.{bit_at, bit_not, trailing_zeros, w64}
 use Rattle.std.specs.Int.Bits.{or_zero_r}
 use mir.Val.{bool_byte}
 use Rattle.std.proofs.lemmas.Bool.{cases_eq, cases_lt, eq-eqb, eqb-true, ne_eqb, and_right}
 use Rattle.std.proofs.lemmas.Bool.{true≢false}
 use Rattle.std.proofs.lemmas.Nat.{one_shl, or_lt, and_le_l, and_mask, shr-shr, pow_below}
-use Rattle.std.proofs.lemmas.Nat.Bits.{bit_at_and, bit_at_or, bit_at_not, bit_at_ones, bit_at-lt, bit_at_set_same}
+use Rattle.std.proofs.lemmas.Nat.Bits.{bit_at_and, bit_at_not, bit_at_ones, bit_at-lt, bit_at_set_same}
 use Rattle.std.proofs.lemmas.Nat.Bits.{bit_at_set_other, bit_at_clear_same, bit_at_clear_other, bit_at_above}
 use Rattle.std.proofs.lemmas.Nat.Bits.{bit_at-trailing_zeros}
 use Rattle.std.proofs.Math.Pow.{pow_mono, shl_lt}
@@ -18,13 +18,6 @@ use Rattle.worm_flit.proofs.LowestBit.{lowest_cleared}
 use Rattle.worm_vcalloc.proofs.Lines.{shifted_low, shifted_high}
 
 -- ---- tests of bits
-
--- the higher of two bits is set where one is
-either_set : (x y : ℕ) → x < 2 → y < 2 → (max x y == 1) ≡ ((x == 1) || (y == 1))
-either_set x y lx ly = elim (cases_eq x 1) [
-  | inl ex ↦ eq-eqb (max x y) 1 (omega arith) ∙ sym (ap (λ t. t || (y == 1)) (eq-eqb x 1 ex))
-  | inr nx ↦ ap (λ m. m == 1) (let e : max x y ≡ y = omega arith in e) ∙ sym (ap (λ t. t || (y == 1)) (ne_eqb x 1 nx))
-]
 
 and_true : (b : Bool) → (b && true) ≡ b
 and_true true = refl
@@ -167,11 +160,6 @@ pub has_both : (a b p c : ℕ) → has (bit_and a b) p c ≡ (has a p c && has b
 has_both a b p c =
     ap (λ x. x == 1) (bit_at_and a b (8 * p + c))
     ∙ both_set (bit_at a (8 * p + c)) (bit_at b (8 * p + c)) (bit_at-lt a (8 * p + c)) (bit_at-lt b (8 * p + c))
-
-pub has_either : (a b p c : ℕ) → has (bit_or a b) p c ≡ (has a p c || has b p c)
-has_either a b p c =
-    ap (λ x. x == 1) (bit_at_or a b (8 * p + c))
-    ∙ either_set (bit_at a (8 * p + c)) (bit_at b (8 * p + c)) (bit_at-lt a (8 * p + c)) (bit_at-lt b (8 * p + c))
 
 pub has_first_alone : (a b p c : ℕ) → b < 2 ^ 64 → p < 7 → c < 8
     → has (bit_and a (bit_not w64 b)) p c ≡ (has a p c && not (has b p c))

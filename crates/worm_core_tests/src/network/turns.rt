@@ -59,6 +59,17 @@ fn both_lanes_are_granted_in_one_turn(rt: HostRuntime) {
     trial.stands(lane(1, 2, 1), &left);
 }
 
+/// In the second turn and in the third the channel that is not served is ready, too: it can send right after the turn.
+#[test]
+fn who_is_not_served_stays_ready(rt: HostRuntime) {
+    let mut first = two_lanes(rt);
+    first.takes_turns(0, 2);
+    first.does([send(1, 0, 0)]);
+    let mut second = two_lanes(rt);
+    second.takes_turns(0, 3);
+    second.does([send(1, 2, 1)]);
+}
+
 /// Node 0 takes that credit in the second turn, in which node 1 gives none.
 #[test]
 fn a_credit_is_taken_in_the_next_turn(rt: HostRuntime) {

@@ -19,6 +19,8 @@ enum Kind {
     SecondFormat,
     /// Traffic of two nodes.
     Traffic,
+    /// Traffic of three nodes by two.
+    TrafficOfSix,
 }
 
 /// The fields, each behind a space.
@@ -108,6 +110,14 @@ fn traffic_text(alloc: Global, script: &Script) -> Result<String, Fail> {
     Ok(format!(in alloc; "wormtraffic 1\n{entries}end\n")?)
 }
 
+/// The text of what is read from traffic of this network; `None` where it is refused.
+fn traffic_back(alloc: Global, network: &[u8], text: &[u8]) -> Result<Option<String>, Fail> {
+    match traffic(alloc, network, text)? {
+        Ok(script) => Ok(Some(traffic_text(alloc, &script)?)),
+        Err(_) => Ok(None),
+    }
+}
+
 /// The text of what is read from a text; `None` where it is refused.
 fn read_back(alloc: Global, kind: Kind, text: &[u8]) -> Result<Option<String>, Fail> {
     Ok(match kind {
@@ -119,10 +129,8 @@ fn read_back(alloc: Global, kind: Kind, text: &[u8]) -> Result<Option<String>, F
             Ok(config) => Some(second_text(alloc, &config)?),
             Err(_) => None,
         },
-        Kind::Traffic => match traffic(alloc, TWO_NODES, text)? {
-            Ok(script) => Some(traffic_text(alloc, &script)?),
-            Err(_) => None,
-        },
+        Kind::Traffic => traffic_back(alloc, TWO_NODES, text)?,
+        Kind::TrafficOfSix => traffic_back(alloc, THREE_BY_TWO, text)?,
     })
 }
 
@@ -185,5 +193,14 @@ fn a_byte_of_a_network_of_two_radices_is_replaced(rt: HostRuntime) -> Result<(),
 fn a_byte_of_traffic_is_replaced(rt: HostRuntime) -> Result<(), Fail> {
     let accepted = accepted(&rt, rt.alloc(), Kind::Traffic, TWO_WORDS)?;
     assert_eq!(rt; accepted, 40 + 55);
+    Ok(())
+}
+
+/// Another turn, node or word: 9, 5 and 5, and 9 ways.
+#[test]
+fn a_byte_of_traffic_of_two_radices_is_replaced(rt: HostRuntime) -> Result<(), Fail> {
+    let text = b"wormtraffic 1\nsend 0 0 5 data 9\nend\n";
+    let accepted = accepted(&rt, rt.alloc(), Kind::TrafficOfSix, text)?;
+    assert_eq!(rt; accepted, 36 + 28);
     Ok(())
 }

@@ -214,6 +214,9 @@ const LIMITS_OF_TRAFFIC: &[(&[u8], &str, Told)] = &[
     (MOST_NODES, "send 0 255 255 data 4294967295", None),
     (MOST_NODES, "send 0 256 0 data 1", Some((2, Why::Range))),
     (MOST_NODES, "send 0 0 256 data 1", Some((2, Why::Range))),
+    (THREE_BY_TWO, "send 0 5 5 data 1", None),
+    (THREE_BY_TWO, "send 0 6 0 data 1", Some((2, Why::Range))),
+    (THREE_BY_TWO, "send 0 0 6 data 1", Some((2, Why::Range))),
 ];
 
 #[test]
