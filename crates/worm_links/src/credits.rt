@@ -220,9 +220,8 @@ impl CreditTx {
         ensures back { IfErr result (λ back. (back ≡ channel) × (self.new ≡ self.old)) }
         ensures full { IfErr result (λ _. link_capacity self.old.link ≤ length self.old.sent) }
     {
-        self.line
-            .queue
-            .push_as::<Sends, R>(rt, &mut self.pass, channel)
+        let queue = &self.line.queue;
+        queue.push_as::<Sends, R>(rt, &mut self.pass, channel)
     }
 }
 

@@ -53,10 +53,9 @@ fn stops_by_worker(stops: &[Stop]) -> [Option<u64>; 16]
 fn lack_memory(stops: &[Stop]) -> bool
     ensures { result ≡ lack_memory stops.now }
 {
-    match stops {
-        [] => false,
-        [stop, rest @ ..] => matches!(stop.why, StopWhy::NoMemory) || lack_memory(rest),
-    }
+    stops
+        .iter()
+        .any(|stop| matches!(stop.why, StopWhy::NoMemory))
 }
 
 /// The drain where nobody was stopped; else nothing, and want of memory is told.
