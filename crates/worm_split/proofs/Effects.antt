@@ -20,7 +20,7 @@ use Rattle.worm_script.specs.Script.{HaveWords}
 use Rattle.worm_split.specs.PartState.{PartState}
 use Rattle.worm_split.specs.PartTurns.{NodeTurn, Turn}
 use Rattle.worm_split.proofs.Accepted.{accepted-none}
-use Rattle.worm_split.proofs.Alone.{Touches, no_more}
+use Rattle.worm_split.proofs.OneNodeTouched.{Touches, no_more}
 use Rattle.worm_split.proofs.FirstAccepted.{IsSeated, seated_in}
 use Rattle.worm_split.proofs.NodeEffects.{NodeDid, NodeRefuses, node_did}
 

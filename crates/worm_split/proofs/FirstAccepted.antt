@@ -33,7 +33,7 @@ use Rattle.worm_region.proofs.Sources.{counted_packets, none_refused}
 use Rattle.worm_split.specs.Effects.{HasAccepted, HaveTheSame, Refuses, after_act}
 use Rattle.worm_script.specs.Script.{HasWords}
 use Rattle.worm_split.proofs.Accepted.{accepted-none, accepted-then, same_source}
-use Rattle.worm_split.proofs.Alone.{Touches, none_refuses, put_there, put_touches, touched_on, untouched}
+use Rattle.worm_split.proofs.OneNodeTouched.{Touches, none_refuses, put_there, put_touches, touched_on, untouched}
 
 -- the node is there, and its parts are those of this node
 pub record IsSeated (s : NetState) (x : ℕ) : Type 0 where

@@ -25,7 +25,7 @@ use Rattle.worm_theory.specs.Steps.{node_of}
 use Rattle.worm_theory.proofs.Regions.{step_part}
 use Rattle.worm_split.specs.declared.ends.End.{End}
 use Rattle.worm_split.specs.Ends.{seen_by}
-use Rattle.worm_split.proofs.Within.{Sees, seen_after, seen_enabled}
+use Rattle.worm_split.proofs.NoEndTouched.{Sees, seen_after, seen_enabled}
 
 same_config : (s : NetState) → IsSameConfig s s
 same_config s = record { mesh = refl; channels = refl; depth = refl; names = refl; own = refl }
@@ -117,8 +117,8 @@ module _ (s : Shape) (mesh : IsMesh s) (old : Network) (own : ℕ → Bool) (end
 
   -- The phases of a turn, at one of the part's nodes whose links are seen as the node's own lists.
   module _ (x : ℕ) (here : own x ≡ true) (in_sees : (p y : ℕ) → s.neighbour x p ≡ Some y
-      → Rattle.worm_split.proofs.Within.SeesFlits (end y (s.opposite p)))
-      (out_sees : (o : ℕ) → Rattle.worm_split.proofs.Within.SeesCredits (end x o)) where
+      → Rattle.worm_split.proofs.NoEndTouched.SeesFlits (end y (s.opposite p)))
+      (out_sees : (o : ℕ) → Rattle.worm_split.proofs.NoEndTouched.SeesCredits (end x o)) where
     asked_within : (act : Act) → IsWithin (ask x act)
     asked_within (ToOffer packet) = (here, λ net. tt)
     asked_within (ToClose lane) = (here, λ net. tt)

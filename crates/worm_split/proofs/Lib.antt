@@ -4,7 +4,7 @@ pub mod Crossing
 pub mod EndFacts
 pub mod GoesByEnd
 pub mod GrantsSent
-pub mod Inside
+pub mod OwnMoves
 pub mod Keeping
 pub mod PartFacts
 pub mod PartLoops
@@ -12,7 +12,7 @@ pub mod PartMoves
 pub mod EndsKnown
 pub mod SeenAtEnds
 pub mod Staying
-pub mod Within
+pub mod NoEndTouched
 pub mod Swapping
 pub mod Meeting
 pub mod Gathered
@@ -34,7 +34,7 @@ pub mod FirstPart
 pub mod DealtSoFar
 pub mod Accepted
 pub mod PassagesTell
-pub mod Alone
+pub mod OneNodeTouched
 pub mod Grants
 pub mod FirstAccepted
 pub mod SinkSends

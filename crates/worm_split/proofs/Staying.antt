@@ -25,10 +25,10 @@ use Rattle.worm_split.specs.Ends.{leaves_by, enters_by}
 use Rattle.worm_split.specs.PartState.{PartState, IsPart, end_of, owns, taken_by, returned_to}
 use Rattle.worm_split.specs.PartTurns.{LeavesBy, ComesBy, StaysWithin}
 use Rattle.worm_split.proofs.GoesByEnd.{ready_at}
-use Rattle.worm_split.proofs.Inside.{IsInside, inside_now}
+use Rattle.worm_split.proofs.OwnMoves.{IsInside, inside_now}
 use Rattle.worm_split.proofs.Keeping.{keeps_answer, stays}
 use Rattle.worm_split.proofs.PartFacts.{mesh_of_part, is_leaving, is_entering, is_inner}
-use Rattle.worm_split.proofs.Within.{Sees, SeesFlits, SeesCredits}
+use Rattle.worm_split.proofs.NoEndTouched.{Sees, SeesFlits, SeesCredits}
 
 -- the test of an end
 pub leaves_means : (e : End) (b : Bool) → b ≡ leaves_by e

@@ -4,7 +4,7 @@ use Rattle.std.proofs.lemmas.Grind.{common_steps, elements}
 use Rattle.worm_records.specs.declared.OutRecord.{OutRecord}
 use Rattle.worm_router.specs.Busy.{IsFiled, IsKept}
 use Rattle.worm_router.specs.Router.{free_output, router_state}
-use Rattle.worm_router.proofs.Kept.{full_after, full_before}
+use Rattle.worm_router.proofs.ChangesSound.{full_after, full_before}
 use Rattle.worm_router.proofs.Places.{output_of}
 use Rattle.worm_router.proofs.Filed.{busy_as, filed}
 use Rattle.worm_router.proofs.Holders.{holders_out}

@@ -6,7 +6,7 @@ use Rattle.worm_router.specs.Busy.{HasFront, IsFiled, is_occupied, owes, port_he
 use Rattle.std.proofs.lemmas.Bool.{lt-ltb}
 use Rattle.worm_vcalloc.specs.ChannelSet.{has}
 use Rattle.worm_router.proofs.Places.{input_of}
-use Rattle.worm_router.proofs.Kept.{input_read, input_set_sound, read_sound, give_sound}
+use Rattle.worm_router.proofs.ChangesSound.{input_read, input_set_sound, read_sound, give_sound}
 use Rattle.worm_router.proofs.Filed.{busy_filed, filed, inside_of, owes_still}
 use Rattle.worm_router.proofs.Demanded.{requests_kept}
 use Rattle.worm_router.proofs.Holders.{holders_in}

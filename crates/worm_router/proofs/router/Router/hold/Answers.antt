@@ -9,7 +9,7 @@ use Rattle.worm_router.specs.Allocation.{asking}
 use Rattle.worm_router.specs.Demand.{DemandView}
 use Rattle.worm_router.specs.Busy.{HasFront, port_held, is_occupied, is_waiting, owes}
 use Rattle.worm_router.proofs.Places.{input_of, output_of, output_read}
-use Rattle.worm_router.proofs.Kept.{full_after, full_before, input_read, read_sound, state_sound}
+use Rattle.worm_router.proofs.ChangesSound.{full_after, full_before, input_read, read_sound, state_sound}
 use Rattle.worm_router.proofs.Filed.{busy_filed, filed}
 use Rattle.worm_router.proofs.Holders.{holders_held}
 use Rattle.worm_router.proofs.Demanded.{requests_put, free_put}

@@ -8,7 +8,7 @@ use Rattle.worm_router.proofs.Filed.{filed, inside_of, owes_more}
 use Rattle.worm_router.specs.declared.busy.BusyChannels.{BusyChannels}
 use Rattle.worm_router.specs.Router.{RouterState, ChannelState, router_state}
 use Rattle.worm_router.proofs.Leaving.{may_leave}
-use Rattle.worm_router.proofs.Left.{IsLeaving, IsOut, leaving_of, closed_kept, followed_kept}
+use Rattle.worm_router.proofs.AfterSending.{IsLeaving, IsOut, leaving_of, closed_kept, followed_kept}
 use Rattle.worm_router.proofs.router.Router.let_out.Goals.{After-index_mut-output, After-insert_if-2}
 use Rattle.worm_router.proofs.router.Router.let_out.Goals as goal
 

@@ -1,7 +1,7 @@
 use Rattle.std.proofs.Common.{◌≡◌, Some, subst, sym, ◌∙◌}
 use Rattle.worm_flit.specs.Stamps.{with_channel}
 use Rattle.worm_router.specs.Router.{IsRouter, leaving}
-use Rattle.worm_router.proofs.Kept.{input_read}
+use Rattle.worm_router.proofs.ChangesSound.{input_read}
 use Rattle.worm_router.proofs.Leaving.{may_leave}
 use Rattle.worm_router.proofs.ReadyOuts.{leaves_by_hold}
 use Rattle.worm_router.proofs.router.Router.next_out.Goals as goal

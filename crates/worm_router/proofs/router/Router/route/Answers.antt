@@ -6,7 +6,7 @@ use Rattle.worm_router.specs.Demand.{DemandView}
 use Rattle.worm_router.specs.Busy.{HasFront, is_occupied, owes, port_held}
 use Rattle.worm_router.specs.Router.{ChannelState, RouterState}
 use Rattle.worm_router.proofs.Places.{input_of}
-use Rattle.worm_router.proofs.Kept.{input_set_sound, read_sound, state_sound}
+use Rattle.worm_router.proofs.ChangesSound.{input_set_sound, read_sound, state_sound}
 use Rattle.worm_router.proofs.Filed.{busy_filed}
 use Rattle.worm_records.specs.declared.InRecord.TheVariants.{Idle, Waiting}
 use Rattle.worm_router.proofs.Holders.{holders_in}

@@ -4,7 +4,7 @@ use Rattle.worm_region.specs.Workable.{owned}
 use Rattle.worm_region.specs.declared.owner.Owner.{Owner}
 use Rattle.worm_split.specs.Apart.{IsKept}
 use Rattle.worm_split.specs.PartState.{PartState, part_state}
-use Rattle.worm_split.proofs.Inside.{inside_now, keeps_asked, part_with_net}
+use Rattle.worm_split.proofs.OwnMoves.{inside_now, keeps_asked, part_with_net}
 use Rattle.worm_split.proofs.part.Part.ask_source.Goals as goal
 
 pub invariant_of-self : goal.invariant_of-self

@@ -5,7 +5,7 @@ use Rattle.worm_region.specs.declared.step.Moved.TheVariants.{Done}
 use Rattle.worm_split.specs.Apart.{IsKept}
 use Rattle.worm_split.specs.PartState.{PartState, part_state}
 use Rattle.worm_split.specs.PartTurns.{ComesBy}
-use Rattle.worm_split.proofs.Inside.{part_with_net}
+use Rattle.worm_split.proofs.OwnMoves.{part_with_net}
 use Rattle.worm_split.proofs.Staying.{credit_ends_within, gave_within}
 use Rattle.worm_split.proofs.part.Part.give_within.Goals as goal
 

@@ -6,7 +6,7 @@ use Rattle.worm_region.specs.declared.owner.Owner.{Owner}
 use Rattle.worm_split.specs.Apart.{IsKept}
 use Rattle.worm_split.specs.PartState.{PartState, part_state}
 use Rattle.worm_split.specs.PartTurns.{StaysWithin}
-use Rattle.worm_split.proofs.Inside.{part_with_net}
+use Rattle.worm_split.proofs.OwnMoves.{part_with_net}
 use Rattle.worm_split.proofs.Staying.{sends_within, sent_within}
 use Rattle.worm_split.proofs.part.Part.send_within.Goals as goal
 

@@ -13,7 +13,7 @@ use Rattle.worm_router.specs.Router.{RouterState, ChannelState, IsChannel, IsPla
 use Rattle.worm_router.specs.Router.{fresh_channel, free_output, input_at, output_at, leaving, credit_of}
 use Rattle.worm_router.specs.Demand.{DemandView}
 use Rattle.worm_router.specs.Busy.{IsKept, HasFront, IsFiled, is_occupied, is_waiting, owes, waits}
-use Rattle.worm_router.proofs.Kept.{both_set_sound, left_by, left_sound, full_after, no_credit}
+use Rattle.worm_router.proofs.ChangesSound.{both_set_sound, left_by, left_sound, full_after, no_credit}
 use Rattle.worm_router.proofs.Places.{IsInput, IsOutput, input_of, output_of}
 use Rattle.worm_router.proofs.Filed.{busy_filed}
 use Rattle.worm_router.proofs.Leaving.{may_leave, leaves_by_state, leaves_occupied}

@@ -29,7 +29,7 @@ use Rattle.worm_split.specs.PartState.{PartState, IsPart, end_of, owns, taken_by
 use Rattle.worm_split.proofs.Keeping.{IsOf, Keeps, keeps_answer, keeps_asking, keeps_credits, keeps_flits}
 use Rattle.worm_split.proofs.Keeping.{keeps_feeding, keeps_routing, keeps_then}
 use Rattle.worm_split.proofs.PartFacts.{mesh_of_part, part_shape, is_leaving, is_entering}
-use Rattle.worm_split.proofs.Within.{SeesFlits, SeesCredits}
+use Rattle.worm_split.proofs.NoEndTouched.{SeesFlits, SeesCredits}
 
 module _ (p : PartState) (part : IsPart p) where
   -- the network of these lists is that of a part with these ends
