@@ -1,6 +1,5 @@
 -- How a mesh is stored: its radices, filled up with ones to three.
 use Rattle.std.specs.Prelude.{ℕ, ◌≡◌, ◌-◌, ◌≤◌, List, ◌++◌, length, take, drop, replicate}
-use Rattle.std.proofs.Common.{arith, length-take, take-append-drop}
 use Rattle.worm_mesh.specs.Address.{AreRadices}
 
 -- what is stored: three numbers, of which the first `dims` are the radices of a mesh and the rest are ones
@@ -13,11 +12,3 @@ pub record IsStored (radices : List ℕ) (dims : ℕ) : Type 0 where
 -- the three stored radices
 abbrev pub filled_up : List ℕ → List ℕ
 filled_up ks = ks ++ replicate (3 - length ks) 1
-
--- the stored numbers come back from the radices
-pub length_stored : (radices : List ℕ) (dims : ℕ) → IsStored radices dims → length (take dims radices) ≡ dims
-length_stored radices dims h = let a = h.three in let b = h.dims_fit in simp length-take (omega arith)
-
-pub filled_up-take : (radices : List ℕ) (dims : ℕ) → IsStored radices dims → filled_up (take dims radices) ≡ radices
-filled_up-take radices dims h =
-    rw (length_stored radices dims h, ← h.filled) (take-append-drop dims radices)

@@ -54,9 +54,9 @@ pub struct LinkEnds {
 }
 
 impl Model for Mesh {
-    ghost use Rattle.std.specs.Prelude.{ℕ, List, take, length};
-    ghost use Rattle.std.proofs.Common.{refl};
-    ghost use Rattle.worm_mesh.specs.Stored.{IsStored, filled_up, filled_up-take, length_stored};
+    ghost use Rattle.std.specs.Prelude.{ℕ, ◌≡◌, List, take, length};
+    ghost use Rattle.std.proofs.Common.{arith, length-take, refl, take-append-drop};
+    ghost use Rattle.worm_mesh.specs.Stored.{IsStored, filled_up};
 
     ghost Value = { List ℕ };
 
@@ -66,7 +66,13 @@ impl Model for Mesh {
 
     ghost inverse = { λ ks. record { radices = filled_up ks; dims = length ks } };
 
-    ghost inverse_ok = { λ m h. Prim.rw (filled_up-take m.radices m.dims h, length_stored m.radices m.dims h) refl };
+    ghost inverse_ok = { λ m h.
+      let three = h.three in
+      let dims_fit = h.dims_fit in
+      let counted : length (take m.dims m.radices) ≡ m.dims = Prim.simp length-take (Prim.omega arith) in
+      let filled : filled_up (take m.dims m.radices) ≡ m.radices
+        = Prim.rw (counted, ← h.filled) (take-append-drop m.dims m.radices) in
+      Prim.rw (filled, counted) refl };
 }
 
 // Whether each radix is within the limits.

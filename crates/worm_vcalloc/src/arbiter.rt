@@ -25,10 +25,12 @@ pub struct Arbiter {
 }
 
 impl Model for Arbiter {
-    ghost use Rattle.std.proofs.Common.{refl};
-    ghost use Rattle.std.specs.Prelude.{◌<◌, ◌≤◌};
+    ghost use Rattle.std.proofs.Common.{ap, arith, inl, inr, refl, ◌∙◌};
+    ghost use Rattle.std.proofs.Math.Nat.{mod-eq_of_lt, mod_self};
+    ghost use Rattle.std.proofs.lemmas.Bool.{cases_eq};
+    ghost use Rattle.std.proofs.lemmas.Nat.{mod-mul-add};
+    ghost use Rattle.std.specs.Prelude.{◌<◌, ◌≤◌, ◌≡◌, ◌+◌, ◌-◌, ◌*◌, ◌%◌};
     ghost use Rattle.worm_vcalloc.specs.Arbiter.{ArbiterState, asking_last, last_of};
-    ghost use Rattle.worm_vcalloc.specs.Places.{last_again};
 
     ghost Value = { ArbiterState };
 
@@ -38,7 +40,19 @@ impl Model for Arbiter {
 
     ghost inverse = { λ v. record { width = v.width; last = last_of v } };
 
-    ghost inverse_ok = { λ a h. Prim.rw (last_again a.width a.last h.0) refl };
+    ghost inverse_ok = { λ a h.
+      let inside = h.0 in
+      let again : last_of (asking_last a.width a.last) ≡ a.last = elim (cases_eq (a.last + 1) a.width) [
+        | inl end ↦
+            let first : (a.last + 1) % a.width ≡ 0 = ap (λ n. n % a.width) end ∙ mod_self a.width in
+            let back : (a.last + 1) % a.width + a.width - 1 ≡ a.last = Prim.omega arith in
+            ap (λ n. n % a.width) back ∙ mod-eq_of_lt inside
+        | inr other ↦
+            let next : (a.last + 1) % a.width ≡ a.last + 1 = mod-eq_of_lt (Prim.omega arith) in
+            let round : (a.last + 1) % a.width + a.width - 1 ≡ 1 * a.width + a.last = Prim.omega arith in
+            ap (λ n. n % a.width) round ∙ mod-mul-add 1 a.width a.last inside
+      ] in
+      Prim.rw again refl };
 }
 
 impl Arbiter {

@@ -26,7 +26,7 @@ pub type VcGrants = [[Option<u8>; 8]; 7];
 /// let mut alloc = VcAlloc::new(5, 2);
 /// let grants = alloc.grant(&waiting, &free); // grants[0][1] is what channel 1 of input port 0 is granted
 /// ```
-#[derive(Clone, Copy)]
+#[derive(Drop)]
 pub struct VcAlloc {
     /// The ports of the router, 1 to 7.
     ports: u8,
@@ -38,8 +38,7 @@ pub struct VcAlloc {
 }
 
 impl Model for VcAlloc {
-    ghost use Rattle.std.proofs.Common.{refl};
-    ghost use Rattle.worm_vcalloc.specs.Places.{IsPlaced, arbiters_at, places_again, places_of};
+    ghost use Rattle.worm_vcalloc.specs.Places.{IsPlaced, arbiters_at};
     ghost use Rattle.worm_vcalloc.specs.VcAlloc.{VcAllocState};
 
     ghost Value = { VcAllocState };
@@ -51,14 +50,6 @@ impl Model for VcAlloc {
     } };
 
     ghost invariant = { λ a. IsPlaced a.ports a.vcs a.places };
-
-    ghost inverse = { λ v. record {
-      ports = v.ports;
-      vcs = v.vcs;
-      places = places_of v.vcs v.arbiters;
-    } };
-
-    ghost inverse_ok = { λ a h. Prim.rw (places_again a.ports a.vcs a.places h.each) refl };
 }
 
 impl VcAlloc {
