@@ -200,7 +200,11 @@ module _ (stop pass : ℕ → ℕ → Type 0) (network traffic : List ℕ) (plan
     };
     written = writes.1;
   }
-  together_so (Err f.NoMemory) writes = inr record { part = part writes.part; lines = writes.lines; short = writes.short }
+  together_so (Err f.NoMemory) writes = inr record {
+    part = part writes.part;
+    lines = writes.lines;
+    short = writes.short;
+  }
   together_so (Err f.Write) writes = part writes
   together_so (Err f.Workers) writes = absurd writes
   together_so (Err (f.Network t)) writes = absurd writes

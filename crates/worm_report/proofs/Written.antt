@@ -349,7 +349,8 @@ below_stop f i n lt passed h k =
     let m = below_split f (i + 1) n (omega arith) in
     let here = same_rows (rows_below f i ++ f i) (rows_below f (i + 1)) (sym (below_last f i))
     (rows_then (rows_below f i) (f i) h k) in
-    same_rows (rows_below f (i + 1) ++ m.0) (rows_below f n) (sym m.1) (rows_stop (rows_below f (i + 1)) m.0 passed here)
+    same_rows (rows_below f (i + 1) ++ m.0) (rows_below f n) (sym m.1)
+    (rows_stop (rows_below f (i + 1)) m.0 passed here)
 
 pub below_all : {a b : Standing} {r : Answer} (f : ℕ → List Row) (i n : ℕ) → i ≡ n → WritesRows a b r (rows_below f i)
     → WritesRows a b r (rows_below f n)

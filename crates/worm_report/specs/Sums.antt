@@ -21,8 +21,8 @@ sums_line delivered underway = join_with_byte space
     (codes "total" ∷ codes "injected" ∷ decimal (delivered + underway) ∷ codes "delivered" ∷ decimal delivered
     ∷ codes "underway" ∷ decimal underway ∷ [])
 
--- The text's last line says how many of its lines begin with `delivered`, how many with `underway`, and as injected both
--- together.
+-- The text's last line says how many of its lines begin with `delivered`, how many with `underway`, and as injected
+-- both together.
 pub record AddsUp (text : List ℕ) : Type 0 where
   pub before : List ℕ
   pub ends : text ≡ before ++ newline

@@ -23,9 +23,9 @@ use Rattle.worm_split.specs.PartState.{PartState}
 use Rattle.worm_split.specs.PartTurns.{Gives, GivesCredit, GivesCredits, NodeTurn, PartPassage}
 use Rattle.worm_split.specs.PartTurns.{PullsCredit, PullsCredits, PullsFlit, PullsFlits, SendsGranted, Within}
 use Rattle.worm_split.proofs.Accepted.{same_source, same_then}
-use Rattle.worm_split.proofs.OneNodeTouched.{IsQuiet, Passed, Quiet, Touches, allocates_quietly, comes_in_quietly, gives_quietly}
-use Rattle.worm_split.proofs.OneNodeTouched.{no_more, none_refuses, passed_quietly, quiet_on, quiet_then, router_quiet}
-use Rattle.worm_split.proofs.OneNodeTouched.{still_quiet, then_quiet, touched_on}
+use Rattle.worm_split.proofs.OneNodeTouched.{IsQuiet, Passed, Quiet, Touches, allocates_quietly, comes_in_quietly}
+use Rattle.worm_split.proofs.OneNodeTouched.{gives_quietly, no_more, none_refuses, passed_quietly, quiet_on, quiet_then}
+use Rattle.worm_split.proofs.OneNodeTouched.{router_quiet, still_quiet, then_quiet, touched_on}
 use Rattle.worm_split.proofs.FirstAccepted.{Asked, IsSeated, asked}
 use Rattle.worm_split.proofs.SinkSends.{sends_passed}
 use Rattle.worm_split.proofs.PassagesTell.{Tells, TellsOf, each_tells_of}

@@ -29,8 +29,8 @@ use Rattle.worm_split.specs.Effects.{HaveTheSame, OneMore}
 use Rattle.worm_split.specs.PartState.{PartState}
 use Rattle.worm_split.specs.PartTurns.{PartPassage, Sends, SendsGrant, SendsGranted}
 use Rattle.worm_split.proofs.Accepted.{same_source}
-use Rattle.worm_split.proofs.OneNodeTouched.{IsUnrefused, Passed, Quiet, none_refuses, passed_quietly, put_at, put_there}
-use Rattle.worm_split.proofs.OneNodeTouched.{put_touches, quiet_then, router_quiet, still_quiet, then_quiet}
+use Rattle.worm_split.proofs.OneNodeTouched.{IsUnrefused, Passed, Quiet, none_refuses, passed_quietly, put_at}
+use Rattle.worm_split.proofs.OneNodeTouched.{put_there, put_touches, quiet_then, router_quiet, still_quiet, then_quiet}
 use Rattle.worm_split.proofs.Grants.{IsHolding, granted_once, grants_hold, holding_still, leaves_by}
 
 -- the sink has what it had

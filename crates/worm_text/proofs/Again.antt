@@ -67,7 +67,8 @@ widened_again radices k few = let t : leb (node_count (radices ++ k ∷ [])) 256
 All-tail : {A : Type 0} (P : A → Type 0) (x : A) (xs : List A) → All P (x ∷ xs) → All P xs
 All-tail P x xs h i d lt = h (suc i) d (omega arith)
 
-radices_again : (radices ks : List ℕ) (rest : List (List ℕ)) → All (IsBetween 2 16) ks → node_count (radices ++ ks) ≤ 256
+radices_again : (radices ks : List ℕ) (rest : List (List ℕ)) → All (IsBetween 2 16) ks
+    → node_count (radices ++ ks) ≤ 256
     → radices_at (length ks) radices (map decimal ks ++ rest) ≡ fine (radices ++ ks, rest)
 unfolding radices_at
 radices_again radices [] rest each few = ap (λ (x : List ℕ). fine (x, rest)) (sym (append-nil radices))
@@ -75,7 +76,8 @@ radices_again radices (k ∷ ks) rest each few =
     let first : IsBetween 2 16 k = each 0 0 (omega arith) in
     let others = All-tail (IsBetween 2 16) k ks each in
     let shift : (radices ++ k ∷ []) ++ ks ≡ radices ++ k ∷ ks = append_assoc radices (k ∷ []) ks in
-    let few2 : node_count ((radices ++ k ∷ []) ++ ks) ≤ 256 = subst (λ (x : List ℕ). node_count x ≤ 256) (sym shift) few in
+    let few2 : node_count ((radices ++ k ∷ []) ++ ks) ≤ 256
+      = subst (λ (x : List ℕ). node_count x ≤ 256) (sym shift) few in
     let few1 = nodes_front (radices ++ k ∷ []) ks (λ i d lt. omega (arith, (others i d lt).0)) few2 in
     let a = bind_at_ok (number_at 2 16 (decimal k ∷ (map decimal ks ++ rest)))
     (λ k. widened radices k.0 >>= λ more. radices_at (length ks) more k.1) (

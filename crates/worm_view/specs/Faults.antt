@@ -46,7 +46,8 @@ words_status w.Both = 2
 words_status w.NotText = 2
 words_status w.NoMemory = 6
 
--- the status of words with a fault of this kind: help and the version are answers, and anything else is the user's fault
+-- the status of words with a fault of this kind: help and the version are answers, and anything else is the user's
+-- fault
 abbrev pub kind_status : ErrorKind → ℕ
 kind_status clap.DisplayHelp = 0
 kind_status clap.DisplayVersion = 0

@@ -11,7 +11,8 @@ loop-step-preserved c =
     elim c.match-at.branch [
       | in-Some w ↦ record {
         counted = counted_some waits (length waits) i c.loop-step.count c.match-at.count _ w.in-Some.packet
-            c.loop-step.at c.match-at.at within w.in-Some.is (w.at-is ∙ w.next-at.ensures) w.count-is c.loop-step.invariant.counted;
+            c.loop-step.at c.match-at.at within w.in-Some.is (w.at-is ∙ w.next-at.ensures) w.count-is
+            c.loop-step.invariant.counted;
         few = omega (arith, w.count-is, c.loop-step.invariant.few);
       }
       | in-None w ↦ record {

@@ -1,4 +1,5 @@
-use Rattle.std.proofs.Common.{rules, ◌≡◌, ◌<◌, ◌+◌, ◌-◌, ◌^◌, ◌&&◌, ◌||◌, Bool, not, cond, List, Some, None, length, min}
+use Rattle.std.proofs.Common.{rules, ◌≡◌, ◌<◌, ◌+◌, ◌-◌, ◌^◌, ◌&&◌, ◌||◌, Bool, not, cond, List, Some, None, length}
+use Rattle.std.proofs.Common.{min}
 use Rattle.std.proofs.Common.{take, ap, ◌∙◌}
 use Rattle.worm_rows.specs.declared.rows.PacketId.{PacketId}
 use Rattle.worm_picture.specs.Packets.{has_packet, moves_in, moving_of, same_packet, tail_in}

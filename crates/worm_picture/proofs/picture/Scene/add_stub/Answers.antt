@@ -13,7 +13,8 @@ returns-then-port-eq5 c =
     (number _ _ [] (number _ _ [] (number _ _ [] (number _ _ [] (λ rest. refl))))) in
     none_then c.write-then-port-eq5.result _ _ _ (none_both _ _ _ (none_both _ _ _ (none_both _ _ _
     c.in_ok-open_frame.ensures first) second) c.in_ok-close.ensures)
-    (adds c.write-then-port-eq5.result c.close.new.self (record { text = c.write-then-port-eq5.new.self }) _ [] c.write-then-port-eq5.ensures.bytes
+    (adds c.write-then-port-eq5.result c.close.new.self (record { text = c.write-then-port-eq5.new.self }) _ []
+    c.write-then-port-eq5.ensures.bytes
     (number _ _ [] (number _ _ [] (number _ _ [] (λ rest. refl)))))
 
 pub returns : goal.returns

@@ -1,7 +1,8 @@
 use Rattle.std.proofs.Common.{Ok, map, refl}
 use Rattle.worm_theory.specs.Steps.{TakeCredit}
 use Rattle.worm_region.specs.Turns.{mesh_ports}
-use Rattle.worm_region.proofs.EachCovered.{covered_all, covered_start, credits, credit_elsewhere, first_linked, ports_more}
+use Rattle.worm_region.proofs.EachCovered.{covered_all, covered_start, credits, credit_elsewhere, first_linked}
+use Rattle.worm_region.proofs.EachCovered.{ports_more}
 use Rattle.worm_region.specs.Answers.{moved_of}
 use Rattle.worm_region.proofs.Passages.{does_quietly}
 use Rattle.worm_region.proofs.region.Region.take_credits.Goals as goal
