@@ -1,5 +1,4 @@
-//! The counts of a node: its number, how many flits wait in its source and how many it was delivered, each with what it
-//! stands for.
+//! What is written at a node: its number, how many flits wait in its source, and how many it was delivered.
 
 ghost use Rattle.std.specs.Prelude.{[], OnOk};
 ghost use Rattle.worm_picture.specs.Picture.{Adds};
@@ -12,7 +11,6 @@ use std::alloc::AllocError;
 use std::fmt::Write;
 use worm_rows::Row;
 
-/// How many flits wait in the source of a node, where any do.
 fn add_waiting(svg: &mut Svg, layout: &Layout, view: &NodeView) -> Result<(), AllocError>
     ensures { OnOk result (Adds svg.old svg.new []) }
 {
@@ -29,7 +27,6 @@ fn add_waiting(svg: &mut Svg, layout: &Layout, view: &NodeView) -> Result<(), Al
     )
 }
 
-/// The number of a node.
 fn add_number(svg: &mut Svg, layout: &Layout, node: u8) -> Result<(), AllocError>
     ensures { OnOk result (Adds svg.old svg.new []) }
 {
@@ -41,7 +38,6 @@ fn add_number(svg: &mut Svg, layout: &Layout, node: u8) -> Result<(), AllocError
     )
 }
 
-/// A line for a flit that was delivered to the node, if the row is of one.
 fn add_delivery(svg: &mut Svg, row: &Row, node: u8) -> Result<(), AllocError>
     ensures { OnOk result (Adds svg.old svg.new []) }
 {
@@ -57,7 +53,6 @@ fn add_delivery(svg: &mut Svg, row: &Row, node: u8) -> Result<(), AllocError>
     }
 }
 
-/// A line for each flit that was delivered to a node.
 fn add_deliveries(svg: &mut Svg, rows: &[Row], node: u8) -> Result<(), AllocError>
     ensures { OnOk result (Adds svg.old svg.new []) }
 {
@@ -67,7 +62,6 @@ fn add_deliveries(svg: &mut Svg, rows: &[Row], node: u8) -> Result<(), AllocErro
     Ok(())
 }
 
-/// How many flits a node was delivered, and which, where any were.
 fn add_arrived(
     svg: &mut Svg,
     layout: &Layout,
@@ -91,7 +85,7 @@ fn add_arrived(
     svg.put("</title></text>\n")
 }
 
-/// The counts of a node, of which those of 0 are left out.
+/// The number of a node, and its counts; a count of 0 is left out.
 pub fn add_counts(
     svg: &mut Svg,
     layout: &Layout,

@@ -10,8 +10,7 @@ use crate::views::node_views;
 use std::alloc::{AllocError, Global};
 use worm_rows::{Row, Shape};
 
-/// The picture of a report's rows, of a network of this shape with buffers of `depth` flits, 1 to 16; or its map for a
-/// terminal, whose text no clause tells.
+/// The picture of these rows, of a network of this shape with buffers of `depth` flits, 1 to 16; or, unproved, a map.
 pub fn draw(
     alloc: Global,
     shape: &Shape,

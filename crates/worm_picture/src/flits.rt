@@ -13,14 +13,12 @@ use crate::titles::FlitTitle;
 use std::alloc::AllocError;
 use std::fmt::Write;
 
-/// The beginning of a flit, and what hovering over it says.
 fn add_title(svg: &mut Svg, title: FlitTitle) -> Result<(), AllocError>
     ensures { OnOk result (Adds svg.old svg.new (flit_title title ∷ [])) }
 {
     write!(svg.text, "<g><title>{title}</title>")
 }
 
-/// The shape of a flit with its middle there, in its packet's colour and with its packet's mark.
 fn add_shape(svg: &mut Svg, index: u8, packet: Packet, x: u32, y: u32) -> Result<(), AllocError>
     ensures { OnOk result (Adds svg.old svg.new []) }
 {
@@ -35,7 +33,6 @@ fn add_shape(svg: &mut Svg, index: u8, packet: Packet, x: u32, y: u32) -> Result
     write!(svg.text, "<use href=\"#{mark}\" x=\"-{x}\" y=\"{y}\"/>")
 }
 
-/// A flit with its middle there, and what hovering over it says.
 fn add_flit(svg: &mut Svg, flit: &Flit, packet: Packet, x: u32, y: u32) -> Result<(), AllocError>
     ensures { OnOk result (Adds svg.old svg.new (title_of packet.last flit.now ∷ [])) }
 {
@@ -49,7 +46,7 @@ fn add_flit(svg: &mut Svg, flit: &Flit, packet: Packet, x: u32, y: u32) -> Resul
     svg.close()
 }
 
-/// Flits one behind the other, so far apart, the first with its middle there.
+/// Flits in a row, `apart` from one another, the first with its middle at `first` and `y`.
 pub fn add_row(
     svg: &mut Svg,
     packets: &Packets,

@@ -5,13 +5,11 @@ use worm_mesh::Mesh;
 /// The length and the width of a flit's slot.
 pub const SLOT: u32 = 12;
 
-/// What is left between a strip and the border of its node.
 const MARGIN: u32 = 20;
 
-/// The room between two nodes.
 const GAP: u32 = 30;
 
-/// What is added to it in three dimensions, for the stubs of the third and their numbers.
+/// What is added to the gap in three dimensions, for the stubs of the third and their numbers.
 const MORE: u32 = 30;
 
 /// The room between the core and the strips of the third dimension, for the ways out by it.
@@ -32,14 +30,14 @@ pub const NAME: u32 = 30;
 /// The room for the heading, in a small picture.
 pub const HEADING: u32 = 64;
 
-/// The room for the legend below it, in a small picture.
+/// The room for the legend below the heading, in a small picture.
 pub const LEGEND: u32 = 100;
 
-/// The room for a line of it more.
+/// The room for one more line of the legend.
 pub const LINE: u32 = 20;
 
-/// The sizes of a node of the picture. A node is a square about its middle; its core is where flits pass from port to
-/// port; at each side of the core is a strip with the buffers of a port.
+/// The sizes of a node, a square about its middle. Flits pass from port to port in its core; at each side of the core
+/// is a strip with the buffers of a port.
 #[derive(Clone, Copy, Debug, PartialEq, Eq)]
 pub struct Layout {
     /// The length of a strip: the depth of a buffer.
@@ -64,7 +62,7 @@ pub struct Layout {
 ghost use Rattle.std.specs.Prelude.{◌≤◌, ◌+◌, ◌*◌};
 
 impl Layout {
-    /// The sizes at so many channels, and buffers of this depth, in so many dimensions.
+    /// The sizes for buffers of `depth` flits and `vcs` channels, in `dims` dimensions.
     pub fn new(depth: u8, vcs: u8, dims: u8) -> Layout {
         let third = u32::from(dims / 3);
         let long = SLOT * u32::from(depth);
@@ -87,7 +85,7 @@ impl Layout {
             .saturating_add(self.pitch / 2)
     }
 
-    /// How far apart so many flits on the link to a port stand, so that all are between the nodes.
+    /// How far apart `flits` flits on the link to a port stand, so that all are between the nodes.
     pub fn on_link(&self, port: u8, flits: usize) -> u32 {
         let room = if port < 4 {
             self.pitch - 2 * self.half
@@ -104,7 +102,7 @@ impl Layout {
     }
 }
 
-/// How far apart things stand of which so many follow a first one in this room: no further than `most`.
+/// How far apart `others` things stand that follow a first one in this room: no further than `most`.
 pub fn step(others: u32, room: u32, most: u32) -> u32 {
     most.min(room / others.max(1))
 }

@@ -84,7 +84,6 @@ const THIRD: &str = "<text class=\"note\" x=\"10\" y=\"112\">\
 Dimension 2 goes from slice to slice, by stubs at a node's edge, under the number of the node there.</text>
 ";
 
-/// What a row tells of the run: the options, or a worker that was stopped.
 fn add_option(svg: &mut Svg, row: &Row) -> Result<(), AllocError>
     ensures { OnOk result (Adds svg.old svg.new []) }
 {
@@ -101,7 +100,6 @@ fn add_option(svg: &mut Svg, row: &Row) -> Result<(), AllocError>
     }
 }
 
-/// The words of the command line with which the report was made, and which workers were stopped.
 fn add_run(svg: &mut Svg, rows: &[Row]) -> Result<(), AllocError>
     ensures { OnOk result (Adds svg.old svg.new []) }
 {
@@ -112,7 +110,6 @@ fn add_run(svg: &mut Svg, rows: &[Row]) -> Result<(), AllocError>
     svg.put("</text>\n")
 }
 
-/// The sums that a row tells, if it tells them.
 fn add_total(svg: &mut Svg, row: &Row, moving: u32) -> Result<(), AllocError>
     ensures { OnOk result (Adds svg.old svg.new []) }
 {
@@ -128,7 +125,6 @@ fn add_total(svg: &mut Svg, row: &Row, moving: u32) -> Result<(), AllocError>
     }
 }
 
-/// What came of the run.
 fn add_sums(svg: &mut Svg, rows: &[Row], moving: u32) -> Result<(), AllocError>
     ensures { OnOk result (Adds svg.old svg.new []) }
 {
@@ -139,7 +135,6 @@ fn add_sums(svg: &mut Svg, rows: &[Row], moving: u32) -> Result<(), AllocError>
     svg.put("</text>\n")
 }
 
-/// The radices of the mesh.
 fn add_radices(svg: &mut Svg, mesh: &Mesh) -> Result<(), AllocError>
     ensures { OnOk result (Adds svg.old svg.new []) }
 {
@@ -151,7 +146,6 @@ fn add_radices(svg: &mut Svg, mesh: &Mesh) -> Result<(), AllocError>
     Ok(())
 }
 
-/// The network, of buffers of this depth.
 fn add_network(svg: &mut Svg, shape: &Shape, depth: u8) -> Result<(), AllocError>
     ensures { OnOk result (Adds svg.old svg.new []) }
 {
@@ -164,7 +158,7 @@ fn add_network(svg: &mut Svg, shape: &Shape, depth: u8) -> Result<(), AllocError
     )
 }
 
-/// What run of which network this is, and what came of it, so many times as large as in a small picture.
+/// What run of which network this is, and what came of it, `scale` times as large as in a small picture.
 pub fn add_heading(
     svg: &mut Svg,
     shape: &Shape,
@@ -182,7 +176,7 @@ pub fn add_heading(
     svg.close()
 }
 
-/// What the signs mean, below the heading, so many times as large as in a small picture.
+/// What the signs mean, below the heading, `scale` times as large as in a small picture.
 pub fn add_legend(svg: &mut Svg, dims: u8, scale: u32) -> Result<(), AllocError>
     ensures { OnOk result (Adds svg.old svg.new []) }
 {

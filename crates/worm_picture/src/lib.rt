@@ -1,9 +1,8 @@
-//! The picture of a report: what a network's flits and counts are at the end of a run, drawn as SVG, or as a map for a
-//! terminal.
+//! The picture of a report: a network's flits and counts at the end of a run, as SVG or as a map for a terminal.
 //!
 //! Proved is which flits are shown at which node, in its buffers and on the links to it, in three groups (`views`);
-//! what hovering over a flit says (`titles`); and that the picture's text, read as a whole, has just these flits, one
-//! by one (`picture`). Not proved is how they look and where they stand, what else is drawn, and the text of the map.
+//! what hovering over a flit says (`titles`); and that the picture's text has just these flits (`picture`). Not
+//! proved is how they look and where they stand, what else is drawn, and the text of the map.
 #![tactic(auto)]
 
 mod counts;

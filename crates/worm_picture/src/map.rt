@@ -7,17 +7,14 @@ use std::alloc::{AllocError, Global};
 use std::fmt::Write;
 use worm_mesh::Mesh;
 
-/// How many buffers are listed at most.
 const MOST_LISTED: u32 = 12;
 
-/// What a map is drawn from.
 #[derive(Drop)]
 struct Scene<'a> {
     mesh: &'a Mesh,
     views: &'a [NodeView],
 }
 
-/// The sign of a port: which way it leads.
 fn sign_of(mesh: &Mesh, port: u8) -> char {
     if port == 2 * mesh.dims() {
         return '*';
@@ -32,7 +29,6 @@ fn sign_of(mesh: &Mesh, port: u8) -> char {
     }
 }
 
-/// Whether a flit in the buffer leaves the node by the port.
 fn leaves_by(mesh: &Mesh, station: &Station, port: u8) -> bool {
     station
         .held
@@ -42,7 +38,6 @@ fn leaves_by(mesh: &Mesh, station: &Station, port: u8) -> bool {
 }
 
 impl<'a> Scene<'a> {
-    /// Whether a flit in a node's buffers leaves by the port.
     fn is_left_by(&self, view: &NodeView, port: u8) -> bool {
         view.stations
             .as_slice()
@@ -50,7 +45,6 @@ impl<'a> Scene<'a> {
             .any(|station| leaves_by(self.mesh, station, port))
     }
 
-    /// A node: how many flits its buffers hold, and which ways they go.
     fn add_cell(&self, map: &mut String, view: &NodeView) -> Result<(), AllocError> {
         let held = view.held();
         if held == 0 {
@@ -71,7 +65,6 @@ impl<'a> Scene<'a> {
         Ok(())
     }
 
-    /// The nodes with these digits in the second and the third dimension.
     fn add_line(&self, map: &mut String, row: u8, slice: u8) -> Result<(), AllocError> {
         for view in self.views {
             let node = view.node;
@@ -82,7 +75,6 @@ impl<'a> Scene<'a> {
         map.push('\n')
     }
 
-    /// All nodes, a slice below the other.
     fn add_cells(&self, map: &mut String) -> Result<(), AllocError> {
         for slice in 0..radix(self.mesh, 2) {
             if slice > 0 {
@@ -95,7 +87,6 @@ impl<'a> Scene<'a> {
         Ok(())
     }
 
-    /// A buffer with what it holds.
     fn add_buffer(&self, map: &mut String, station: &Station) -> Result<(), AllocError> {
         let node = station.spot.node;
         let port = station.spot.port;
@@ -120,7 +111,7 @@ impl<'a> Scene<'a> {
         map.push('\n')
     }
 
-    /// The buffers of a node that hold so many flits, as far as there is room in the list; how much room is left then.
+    /// Lists the node's buffers that hold `count` flits, as far as there is room, and answers what room is left.
     fn add_buffers(
         &self,
         map: &mut String,
@@ -138,7 +129,7 @@ impl<'a> Scene<'a> {
         Ok(left)
     }
 
-    /// The fullest buffers, of those that hold as many the ones of lower nodes first.
+    /// The fullest buffers; of those that hold as many, the ones of lower nodes first.
     fn add_fullest(&self, map: &mut String, depth: u8) -> Result<(), AllocError> {
         let mut room = MOST_LISTED;
         for lack in 0..depth {
@@ -151,7 +142,7 @@ impl<'a> Scene<'a> {
     }
 }
 
-/// The map of these nodes: a cell a node, with the flits in its buffers and where they go (`<` `>` along the first
+/// The map of these nodes: a cell each, with the flits in its buffers and where they go (`<` `>` along the first
 /// dimension, `^` `v` along the second, `-` `+` along the third, `*` to the sink), and the fullest buffers.
 pub fn map(
     alloc: Global,

@@ -15,10 +15,9 @@ use worm_rows::{Load, PacketId, Row};
 /// What is known of a packet.
 #[derive(Clone, Copy, Debug, PartialEq, Eq, Drop)]
 pub struct Packet {
-    /// The greatest index of its flits in the report. A packet is injected whole and loses no flit, so this is its
-    /// tail.
+    /// The greatest index of its flits in the report. A packet is injected whole and loses no flit: this is its tail.
     pub last: u8,
-    /// What it is coloured and marked by, where a flit of it is in a buffer or on a link.
+    /// What colours and marks it, where a flit of it is in a buffer or on a link.
     pub sign: Option<u32>,
 }
 
@@ -29,7 +28,6 @@ pub struct Packets {
     moving: u32,
 }
 
-/// The packet of a row and the place of its flit in it, and whether the flit is in a buffer or on a link.
 fn flit_of(row: &Row) -> Option<(PacketId, u8, bool)>
     ensures place { option_map (λ f. (f.0, f.1)) result ≡ place_of row.now }
     ensures moved { option_and_then (λ f. if f.2 then Some f.0 else None) result ≡ moved_by row.now }
@@ -52,9 +50,8 @@ fn flit_of(row: &Row) -> Option<(PacketId, u8, bool)>
     }
 }
 
-/// What a packet is coloured and marked by. It hangs on nothing but the packet, so that the packet looks the same in
-/// each picture of a run. Packets that are likely to meet, of one lane or from nodes beside one another, look
-/// different.
+/// It depends on the packet alone, so a packet looks the same in each picture of a run. Packets that are likely to
+/// meet, of one lane or from nodes side by side, look different.
 fn sign_of(packet: PacketId) -> u32 {
     let PacketId { lane, number } = packet;
     u32::from(number) + 9 * u32::from(lane.src) + 5 * u32::from(lane.class)
@@ -81,7 +78,6 @@ impl Packets {
         Ok(packets)
     }
 
-    /// One flit more of the packet.
     fn note(&mut self, packet: PacketId, index: u8, moves: bool) -> Result<(), AllocError>
         ensures tails { OnOk result ((other : PacketId)
             → tail_in self.new other ≡ last_with packet index other (tail_in self.old other)) }

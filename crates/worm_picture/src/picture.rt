@@ -23,7 +23,6 @@ use std::alloc::{AllocError, Global};
 use std::fmt::Write;
 use worm_rows::{Row, Shape};
 
-/// What a picture is drawn from.
 #[derive(Drop)]
 struct Scene<'a> {
     shape: &'a Shape,
@@ -36,7 +35,7 @@ struct Scene<'a> {
 }
 
 impl<'a> Scene<'a> {
-    /// How far the channels of a port stand from the middle of its node's core, across the way of its flits.
+    /// How far a port's channels stand from the middle of the node's core, across the way of its flits.
     fn offset(&self, port: u8) -> u32 {
         if port / 2 == self.shape.mesh.dims() {
             self.layout.core + 4
@@ -47,7 +46,6 @@ impl<'a> Scene<'a> {
         }
     }
 
-    /// The buffer of a channel, where there is such a channel, marked where all its slots are taken.
     fn add_buffer(&self, svg: &mut Svg, station: &Station, top: u32) -> Result<(), AllocError>
         ensures { OnOk result (Adds svg.old svg.new []) }
     {
@@ -63,8 +61,6 @@ impl<'a> Scene<'a> {
         )
     }
 
-    /// The way of the flit at the front of a channel's buffer, if there is one, through the core: a line in its
-    /// packet's colour to the port that it leaves by, beside the ways of the node's other fronts there.
     fn add_way(
         &self,
         svg: &mut Svg,
@@ -94,7 +90,6 @@ impl<'a> Scene<'a> {
         svg.close()
     }
 
-    /// A channel of an input port: its slots, and what is in them and on its link.
     fn add_channel(&self, svg: &mut Svg, station: &Station) -> Result<(), AllocError>
         ensures { OnOk result (Adds svg.old svg.new
             (map (flit_name (tail_in self.now.packets.now)) (station_flits station.now))) }
@@ -118,13 +113,11 @@ impl<'a> Scene<'a> {
         svg.close()
     }
 
-    /// How far a channel stands from the middle of its node's core, across the way of its flits.
     fn top_of(&self, station: &Station) -> u32 {
         let above = u32::from(station.spot.vc).saturating_mul(SLOT);
         self.offset(station.spot.port).saturating_add(above)
     }
 
-    /// The link to an input port, where there is one.
     fn add_link(&self, svg: &mut Svg, node: u8, port: u8) -> Result<(), AllocError>
         ensures { OnOk result (Adds svg.old svg.new []) }
     {
@@ -146,7 +139,7 @@ impl<'a> Scene<'a> {
         svg.close()
     }
 
-    /// The links from and to a node of the third dimension: stubs at the node's own edge, under that node's number.
+    /// Links of the third dimension are stubs at the node's own edge, under the neighbour's number.
     fn add_stub(&self, svg: &mut Svg, port: u8, there: u8) -> Result<(), AllocError>
         ensures { OnOk result (Adds svg.old svg.new []) }
     {
@@ -180,12 +173,10 @@ impl<'a> Scene<'a> {
         )
     }
 
-    /// Whether flits come in at the port.
     fn has_input(&self, node: u8, port: u8) -> bool {
         port == 2 * self.shape.mesh.dims() || self.shape.mesh.neighbour(node, port).is_some()
     }
 
-    /// How full the buffers of a node are, in five steps.
     fn load_of(&self, view: &NodeView) -> u8 {
         let ports = (0..7u8)
             .filter(|port| *port <= 2 * self.shape.mesh.dims() && self.has_input(view.node, *port))
@@ -207,7 +198,6 @@ impl<'a> Scene<'a> {
         }
     }
 
-    /// The middle of a node.
     fn middle_of(&self, node: u8) -> (u32, u32) {
         let mesh = &self.shape.mesh;
         let (left, top) = self.corner_of(digit(mesh, node, 2));
@@ -216,7 +206,7 @@ impl<'a> Scene<'a> {
         (x.saturating_add(left), y.saturating_add(top))
     }
 
-    /// The upper left corner of a slice: all nodes with that digit in the third dimension.
+    /// A slice is all nodes with that digit in the third dimension.
     fn corner_of(&self, slice: u8) -> (u32, u32) {
         let across = slices_across(&self.shape.mesh);
         let (width, height) = self.slice_size();
@@ -226,12 +216,10 @@ impl<'a> Scene<'a> {
         (left, top.saturating_add(name).saturating_add(self.head))
     }
 
-    /// The height of the nodes of a slice.
     fn nodes_height(&self) -> u32 {
         u32::from(radix(&self.shape.mesh, 1)).saturating_mul(self.layout.pitch)
     }
 
-    /// The width and the height of a slice, with its name where there are several.
     fn slice_size(&self) -> (u32, u32) {
         let mesh = &self.shape.mesh;
         let columns = u32::from(radix(mesh, 0));
@@ -244,7 +232,6 @@ impl<'a> Scene<'a> {
         )
     }
 
-    /// The width and the height of all slices.
     fn size(&self) -> (u32, u32) {
         let mesh = &self.shape.mesh;
         let across = slices_across(mesh);
@@ -253,7 +240,6 @@ impl<'a> Scene<'a> {
         (width.saturating_mul(across), height.saturating_mul(down))
     }
 
-    /// The names of the slices, where there are several.
     fn add_names(&self, svg: &mut Svg) -> Result<(), AllocError>
         ensures { OnOk result (Adds svg.old svg.new []) }
     {
@@ -273,7 +259,6 @@ impl<'a> Scene<'a> {
         Ok(())
     }
 
-    /// The border of a node, the links to it, and its counts.
     fn add_ground(&self, svg: &mut Svg, view: &NodeView) -> Result<(), AllocError>
         ensures { OnOk result (Adds svg.old svg.new []) }
     {
@@ -289,7 +274,6 @@ impl<'a> Scene<'a> {
         svg.close()
     }
 
-    /// The mark of a node whose buffers hold the most.
     fn add_held_mark(&self, svg: &mut Svg, view: &NodeView) -> Result<(), AllocError>
         ensures { OnOk result (Adds svg.old svg.new []) }
     {
@@ -305,7 +289,6 @@ impl<'a> Scene<'a> {
         )
     }
 
-    /// The mark of a node that was delivered the most.
     fn add_arrived_mark(&self, svg: &mut Svg, view: &NodeView) -> Result<(), AllocError>
         ensures { OnOk result (Adds svg.old svg.new []) }
     {
@@ -320,7 +303,6 @@ impl<'a> Scene<'a> {
         )
     }
 
-    /// The border of a node, which shows how full it is.
     fn add_border(&self, svg: &mut Svg, view: &NodeView) -> Result<(), AllocError>
         ensures { OnOk result (Adds svg.old svg.new []) }
     {
@@ -333,7 +315,6 @@ impl<'a> Scene<'a> {
         )
     }
 
-    /// The ways of the flits at the fronts of a node's buffers.
     fn add_traces(&self, svg: &mut Svg, view: &NodeView) -> Result<(), AllocError>
         ensures { OnOk result (Adds svg.old svg.new []) }
     {
@@ -346,7 +327,6 @@ impl<'a> Scene<'a> {
         svg.close()
     }
 
-    /// The channels of a node, with what is in them and on their links.
     fn add_channels(&self, svg: &mut Svg, stations: &[Station]) -> Result<(), AllocError>
         ensures { OnOk result (Adds svg.old svg.new
             (map (flit_name (tail_in self.now.packets.now)) (flat_map station_flits stations.now))) }
@@ -357,7 +337,6 @@ impl<'a> Scene<'a> {
         Ok(())
     }
 
-    /// The flits in a node's buffers and on the links to it.
     fn add_node(&self, svg: &mut Svg, view: &NodeView) -> Result<(), AllocError>
         ensures { OnOk result (Adds svg.old svg.new
             (map (flit_name (tail_in self.now.packets.now)) (view_flits view.now))) }
@@ -368,7 +347,6 @@ impl<'a> Scene<'a> {
         svg.close()
     }
 
-    /// The flits of all nodes.
     fn add_nodes(&self, svg: &mut Svg, views: &[NodeView]) -> Result<(), AllocError>
         ensures { OnOk result (Adds svg.old svg.new
             (map (flit_name (tail_in self.now.packets.now)) (shown views.now))) }
@@ -379,7 +357,6 @@ impl<'a> Scene<'a> {
         Ok(())
     }
 
-    /// The ground: the borders and links of all nodes, and their counts.
     fn add_grounds(&self, svg: &mut Svg, views: &[NodeView]) -> Result<(), AllocError>
         ensures { OnOk result (Adds svg.old svg.new []) }
     {
@@ -389,7 +366,6 @@ impl<'a> Scene<'a> {
         Ok(())
     }
 
-    /// The ways of all nodes' flits.
     fn add_all_traces(&self, svg: &mut Svg, views: &[NodeView]) -> Result<(), AllocError>
         ensures { OnOk result (Adds svg.old svg.new []) }
     {
@@ -399,7 +375,6 @@ impl<'a> Scene<'a> {
         Ok(())
     }
 
-    /// What stands before the flits.
     fn add_front(&self, svg: &mut Svg, views: &[NodeView], page: &Page) -> Result<(), AllocError>
         ensures { OnOk result (Adds svg.old svg.new []) }
     {
@@ -419,7 +394,6 @@ impl<'a> Scene<'a> {
         self.add_all_traces(svg, views)
     }
 
-    /// The flits between what stands before them and what comes behind.
     fn text(&self, alloc: Global, views: &[NodeView], page: &Page) -> Result<String, AllocError>
         ensures { IfOk result (λ text.
             PicturesFlits (string_bytes text) (tail_in self.now.packets.now) (shown views.now)) }
@@ -432,17 +406,15 @@ impl<'a> Scene<'a> {
     }
 }
 
-/// The sizes of a picture.
 #[derive(Clone, Copy, Debug, PartialEq, Eq)]
 struct Page {
     width: u32,
     height: u32,
-    /// How large the heading and the legend are.
+    /// How many times as large the heading and the legend are as in a small picture.
     scale: u32,
 }
 
 impl Page {
-    /// The beginning of the picture.
     fn open(&self, svg: &mut Svg) -> Result<(), AllocError>
         ensures { OnOk result (Adds svg.old svg.new []) }
     {
@@ -455,7 +427,7 @@ impl Page {
     }
 }
 
-/// The picture of these nodes, as the rows show them of a network of this shape with buffers of this depth.
+/// The picture of these nodes, as the rows show them, of a network of this shape with buffers of `depth` flits.
 pub fn picture(
     alloc: Global,
     shape: &Shape,

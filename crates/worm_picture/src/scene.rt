@@ -113,7 +113,6 @@ pub fn flits_at(alloc: Global, flits: &[Flit], node: u8) -> Result<Vec<Flit>, Al
         .collect(alloc)
 }
 
-/// Whether the flit is at the spot.
 fn is_on(flit: &Flit, spot: Spot) -> bool
     ensures { result ≡ spec.is_on spot flit.now }
 {
@@ -124,7 +123,6 @@ fn is_on(flit: &Flit, spot: Spot) -> bool
         && here.on_link == spot.on_link
 }
 
-/// The flits at a spot.
 fn flits_on(alloc: Global, flits: &[Flit], spot: Spot) -> Result<Vec<Flit>, AllocError>
     ensures { IfOk result (λ found. found.items ≡ spec.flits_on spot flits.now) }
 {
@@ -138,11 +136,11 @@ fn flits_on(alloc: Global, flits: &[Flit], spot: Spot) -> Result<Vec<Flit>, Allo
 /// Which part of its packet a spot holds.
 #[derive(Clone, Copy, Debug, PartialEq, Eq)]
 pub enum Part {
-    /// The opening went on: nothing else can be before it.
+    /// The opening went on: nothing of another packet can be before it.
     Rear,
     /// All that there is of it.
     Whole,
-    /// The tail is to come: nothing else can be behind it.
+    /// The tail is to come: nothing of another packet can be after it.
     Front,
 }
 
@@ -155,7 +153,6 @@ pub struct Parted {
     pub part: Part,
 }
 
-/// Whether this flit of the packet is among these.
 fn holds(flits: &[Flit], packet: PacketId, index: u8) -> bool
     ensures { result ≡ spec.holds flits.now packet index }
 {
@@ -164,7 +161,6 @@ fn holds(flits: &[Flit], packet: PacketId, index: u8) -> bool
         .any(|flit| flit.packet == packet && flit.index == index)
 }
 
-/// Which part of its packet this flit stands in.
 fn part_of(flits: &[Flit], packets: &Packets, flit: &Flit) -> Part
     ensures { result ≡ spec.part_of (tail_in packets.now) flits.now flit.now }
 {
@@ -177,7 +173,6 @@ fn part_of(flits: &[Flit], packets: &Packets, flit: &Flit) -> Part
     }
 }
 
-/// Each of these flits with the part that it stands in.
 fn with_parts(alloc: Global, flits: &[Flit], packets: &Packets) -> Result<Vec<Parted>, AllocError>
     ensures { IfOk result (λ parted. parted.items ≡ spec.with_parts (tail_in packets.now) flits.now) }
 {
@@ -190,7 +185,6 @@ fn with_parts(alloc: Global, flits: &[Flit], packets: &Packets) -> Result<Vec<Pa
         .collect(alloc)
 }
 
-/// Whether the flit stands in such a part.
 fn stands_in(parted: &Parted, part: Part) -> bool
     ensures { result ≡ spec.stands_in part parted.now }
 {
@@ -200,7 +194,6 @@ fn stands_in(parted: &Parted, part: Part) -> bool
     }
 }
 
-/// The flits that stand in such a part, in their order.
 fn of_part(alloc: Global, parted: &[Parted], part: Part) -> Result<Vec<Flit>, AllocError>
     ensures { IfOk result (λ flits. flits.items ≡ spec.of_part part parted.now) }
 {
@@ -211,7 +204,6 @@ fn of_part(alloc: Global, parted: &[Parted], part: Part) -> Result<Vec<Flit>, Al
         .collect(alloc)
 }
 
-/// The rears, then the whole packets, then the fronts.
 fn in_order(alloc: Global, parted: &[Parted]) -> Result<Vec<Flit>, AllocError>
     ensures { IfOk result (λ flits. flits.items ≡ spec.in_order parted.now) }
 {
@@ -224,7 +216,7 @@ fn in_order(alloc: Global, parted: &[Parted]) -> Result<Vec<Flit>, AllocError>
 }
 
 /// The flits at a spot, the front first as far as a report tells: it lists a spot's flits by lane. Packets do not mix
-/// in a channel, so one whose opening went on is at the front, and one whose tail is to come at the back; between
+/// in a channel. So one whose opening went on is at the front, and one whose tail is to come at the back; between
 /// whole packets of several lanes the report's order stands.
 pub fn front_first(
     alloc: Global,
@@ -240,7 +232,6 @@ pub fn front_first(
     in_order(alloc, parted.as_slice())
 }
 
-/// Whether the row is of a flit that waits in the source of the node.
 fn waits_at(row: &Row, node: u8) -> bool
     ensures { result ≡ nodes.waits_at node row.now }
 {
@@ -254,7 +245,6 @@ fn waits_at(row: &Row, node: u8) -> bool
     }
 }
 
-/// Whether the row is of a flit that was delivered to the node.
 fn arrives_at(row: &Row, node: u8) -> bool
     ensures { result ≡ nodes.arrives_at node row.now }
 {

@@ -52,14 +52,14 @@ impl Svg {
         }
     }
 
-    /// What follows has its origin there, up to `close`.
+    /// What follows has its origin at `x` and `y`, up to `close`.
     pub fn open_at(&mut self, x: u32, y: u32) -> Result<(), AllocError>
         ensures { OnOk result (Adds self.old self.new []) }
     {
         write!(self.text, "<g transform=\"translate({x},{y})\">\n")
     }
 
-    /// What follows begins at this height and is so many times as large, up to `close`.
+    /// What follows begins at height `y` and is `scale` times as large, up to `close`.
     pub fn open_scaled(&mut self, y: u32, scale: u32) -> Result<(), AllocError>
         ensures { OnOk result (Adds self.old self.new []) }
     {

@@ -12,7 +12,7 @@ use crate::scene::{Flit, Spot, delivered, flits_at, front_first, queued, seen_fl
 use std::alloc::{AllocError, Global};
 use worm_rows::{Row, Shape};
 
-/// A channel of an input port, with what stands in its buffer and what is on the link to it, the front first.
+/// A channel of an input port, with the flits in its buffer and on the link to it, the front first.
 #[derive(Drop)]
 pub struct Station {
     /// Node, port and channel.
@@ -75,7 +75,6 @@ pub fn most_of(views: &[NodeView]) -> Most
     most
 }
 
-/// The channels of a port.
 fn spots_at(alloc: Global, node: u8, port: u8, vcs: u8) -> Result<Vec<Spot>, AllocError>
     ensures { IfOk result (λ spots. spots.items ≡ spec.spots_at node vcs port) }
 {
@@ -89,7 +88,6 @@ fn spots_at(alloc: Global, node: u8, port: u8, vcs: u8) -> Result<Vec<Spot>, All
         .collect(alloc)
 }
 
-/// The channels of a node's ports, port by port.
 fn spots_in(alloc: Global, node: u8, ports: u8, vcs: u8) -> Result<Vec<Spot>, AllocError>
     ensures { IfOk result (λ spots. spots.items ≡ spec.spots_in node ports vcs) }
 {
@@ -101,7 +99,6 @@ fn spots_in(alloc: Global, node: u8, ports: u8, vcs: u8) -> Result<Vec<Spot>, Al
     Ok(spots)
 }
 
-/// A channel with those of a node's flits that are in its buffer and on its link.
 fn station_at(
     alloc: Global,
     flits: &[Flit],
@@ -122,7 +119,6 @@ fn station_at(
     })
 }
 
-/// These channels, each with its flits.
 fn stations(
     alloc: Global,
     flits: &[Flit],
@@ -139,7 +135,6 @@ fn stations(
     Ok(stations)
 }
 
-/// A node with what is shown of it.
 fn view(
     alloc: Global,
     shape: &Shape,

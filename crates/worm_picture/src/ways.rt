@@ -15,23 +15,19 @@ use std::fmt;
 use std::fmt::Write;
 use worm_mesh::Mesh;
 
-/// How far apart ways out by one port stand at most.
 const APART: u32 = 8;
 
-/// The room for the ways to the sink.
 const TO_SINK: u32 = 12;
 
 /// Where a way stands among those that lead out of a node by one port.
 #[derive(Clone, Copy, Debug, PartialEq, Eq)]
 pub struct Lane {
-    /// How many come before it.
     rank: u32,
-    /// How many there are.
     ways: u32,
 }
 
 impl Lane {
-    /// Where it is in this room, if all stand side by side in its middle.
+    /// Where it is in this room, if all stand side by side in the room's middle.
     fn beside(self, room: u32) -> u32 {
         let others = self.ways.saturating_sub(1);
         let apart = step(others, room, APART);
@@ -40,12 +36,11 @@ impl Lane {
     }
 }
 
-/// The port by which the front of a buffer leaves the node, where there is one.
 fn front_exit(mesh: &Mesh, station: &Station) -> Option<u8> {
     exit_port(mesh, station.held.as_slice().first()?)
 }
 
-/// Where the way of a channel's front stands among those of a node's fronts that leave by this port.
+/// Where the way of a channel's front stands among the ways of the node's fronts that leave by this port.
 pub fn lane_of(mesh: &Mesh, stations: &[Station], spot: Spot, exit: u8) -> Lane {
     let mut lane = Lane { rank: 0, ways: 0 };
     for station in stations {
@@ -59,43 +54,31 @@ pub fn lane_of(mesh: &Mesh, stations: &[Station], spot: Spot, exit: u8) -> Lane 
     lane
 }
 
-/// A part of a packet's way, as a path from point to point.
+/// A part of a packet's way. `core` is how far the border of the core is, `to` how far the way goes.
 #[derive(Clone, Copy, Debug, PartialEq, Eq)]
 pub enum Way {
-    /// From the front of a channel at this level to the middle of the node.
+    /// From the front of a channel at `level` to the middle of the node.
     In {
-        /// How far the border of the core is.
         core: u32,
-        /// The level of the channel.
         level: u32,
     },
-    /// From the middle of the node out of its core, and on at that level.
+    /// From the middle of the node out of its core, and on along a link at `level`.
     Out {
-        /// How far the border of the core is.
         core: u32,
-        /// The level of the link.
         level: u32,
-        /// How far the way goes.
         to: u32,
     },
-    /// From the middle of the node out of its core near a corner, and on by a stub of the third dimension.
+    /// From the middle of the node out of its core near a corner, at `bend`, and from `knee` on by a stub at `level`.
     Stub {
-        /// How far the border of the core is.
         core: u32,
-        /// The level at which it leaves the core.
         bend: u32,
-        /// Where it comes to the level of the stub.
         knee: u32,
-        /// The level of the stub.
         level: u32,
-        /// How far the way goes.
         to: u32,
     },
-    /// From the middle of the node to its sink.
+    /// From the middle of the node to its sink, `x` to the right and `y` down.
     Sink {
-        /// How far to the right.
         x: u32,
-        /// How far down.
         y: u32,
     },
 }
@@ -119,7 +102,7 @@ impl fmt::Display for Way {
     }
 }
 
-/// The way out by a port, beside the others there: along the link where it is held, else to the border of the node.
+/// The way out by a port, beside the others there: along the link where `is_held`, else to the node's border.
 pub fn way_out(layout: &Layout, dims: u8, exit: u8, lane: Lane, is_held: bool) -> Way {
     let core = layout.core;
     if exit / 2 == dims {
@@ -150,7 +133,7 @@ pub fn way_out(layout: &Layout, dims: u8, exit: u8, lane: Lane, is_held: bool) -
     }
 }
 
-/// The way of a flit with this place in its packet, in its packet's colour.
+/// The way of a packet's flit with this index, in the packet's colour.
 pub fn add_way(svg: &mut Svg, index: u8, packet: Packet, way: Way) -> Result<(), AllocError>
     ensures { OnOk result (Adds svg.old svg.new []) }
 {

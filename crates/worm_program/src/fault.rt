@@ -21,16 +21,14 @@ pub enum ProgramFault {
     ReadTraffic,
     /// There was no memory, and no writer failed.
     NoMemory,
-    /// The thread of this worker could not be started.
+    /// The thread of this worker, counted from 0, could not be started.
     NotStarted {
-        /// The worker, counted from 0.
         worker: usize,
     },
-    /// The writer failed or took nothing; a first part of the report has gone out.
+    /// The writer failed or took nothing: a first part of the report has gone out.
     Write,
 }
 
-/// The program's line on the standard error.
 impl fmt::Display for ProgramFault {
     ghost output = { λ fault. Some (line_of fault) };
 

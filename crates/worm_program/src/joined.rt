@@ -7,7 +7,6 @@ ghost use Rattle.worm_program.specs.Joined.{IsCut};
 pub fn network_end(text: &[u8]) -> usize
     ensures within { result ≤ length text.now }
     ensures cut { IsCut text.now result }
-    // A text is cut in one place.
     ensures only { (at : ℕ) → IsCut text.now at → at ≡ result }
 {
     let mut start = 0;

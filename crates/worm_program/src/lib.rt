@@ -1,11 +1,8 @@
 //! What `wormrun` does: a network text and a traffic text in, a report out, over a runtime that gives the words, the
-//! files and the standard streams.
+//! files and the standard streams. A fault is one line on the standard error, and a status.
 //!
-//! With no words both texts come one after the other on the standard input; with words they are the two files
-//! named, and `--turns T` says how many turns to take. A fault is one line on the standard error and a status.
-//!
-//! It is a library, and the program calls its `run`: so who tests it gives a runtime of his own, and what a contract
-//! says of it is judged without the code of all that lies below.
+//! The program calls `run` and no more. So tests give a runtime of their own, and a contract is judged without the
+//! code of all that lies below.
 #![tactic(auto)]
 
 ghost use Rattle.clap.specs.Walk.{texts};
@@ -35,7 +32,6 @@ use std::{fs, io};
 pub use words::{Options, Words, WordsFault, all_words, read_words};
 use worm_run::Paced;
 
-/// Opens both files, the network first, and runs on them.
 fn run_files<R: Files + Print + AllocGlobal, T: Threads + Wait + Sync>(
     rt: &R,
     threads: &T,
@@ -62,7 +58,6 @@ fn run_files<R: Files + Print + AllocGlobal, T: Threads + Wait + Sync>(
     )
 }
 
-/// Says the fault on the standard error, and gives its status.
 fn end<R: Eprint>(rt: &R, ended: Result<(), ProgramFault>) -> ExitCode
     ensures { exit_status result ≡ ended_status ended }
 {
@@ -75,7 +70,6 @@ fn end<R: Eprint>(rt: &R, ended: Result<(), ProgramFault>) -> ExitCode
     }
 }
 
-/// Says what is wrong with the words on the standard error, and gives the status of that.
 fn refuse<R: Print + Eprint>(rt: &R, fault: WordsFault) -> ExitCode
     ensures { exit_status result ≡ words_status fault }
 {
@@ -92,9 +86,6 @@ fn refuse<R: Print + Eprint>(rt: &R, fault: WordsFault) -> ExitCode
     }
 }
 
-/// Reads the words, the program's name first, and runs the program that they ask for.
-///
-/// Words that the parser's definition finds a fault in end with 2, or with 6 where memory ran out.
 #[tactic(auto, using(crate::proofs::Statuses::statuses))]
 fn run_words<R: Files + Input + Print + Eprint + AllocGlobal, T: Threads + Wait + Sync>(
     rt: &R,
@@ -116,8 +107,8 @@ fn run_words<R: Files + Input + Print + Eprint + AllocGlobal, T: Threads + Wait 
     }
 }
 
-/// Runs the program on the words of the command line. Workers take their threads from `threads`. The status is 0 where
-/// the whole report is out, 2 for wrong words, and else that of the fault that was said.
+/// Runs the program on the words of the command line; without words, on both texts in the standard input. The status
+/// is 0 where the whole report is out, 2 for wrong words, and else that of the fault that was said.
 #[tactic(auto, using(crate::proofs::Statuses::of_words))]
 pub fn run<R: Env + Files + Input + Print + Eprint + AllocGlobal, T: Threads + Wait + Sync>(
     rt: &R,

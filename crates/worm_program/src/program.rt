@@ -38,21 +38,18 @@ use worm_text::{ReadFault, Why, read_network, read_text, read_traffic};
 /// The most bytes that a text may have: 8 MiB.
 pub const MOST_BYTES: usize = 8_388_608;
 
-/// The two texts, read to their end.
 #[derive(Drop)]
 struct Texts {
     network: Vec<u8>,
     traffic: Vec<u8>,
 }
 
-/// What two accepted texts say.
 #[derive(Drop)]
 struct Accepted {
     config: Config,
     script: Script,
 }
 
-/// Reads both texts to their end, the network first.
 fn read_both<N: Read, F: Read>(
     alloc: Global,
     network: &mut N,
@@ -77,7 +74,6 @@ fn read_both<N: Read, F: Read>(
     Ok(Texts { network, traffic })
 }
 
-/// Judges both texts, the network first.
 fn accept(alloc: Global, network: &[u8], traffic: &[u8]) -> Result<Accepted, ProgramFault>
     ensures network { IfOk result (λ a. SaysNetwork network.now (view a.config)) }
     ensures traffic { IfOk result (λ a. SaysTraffic (view a.config) traffic.now (said_of a.script)) }
@@ -98,7 +94,6 @@ fn accept(alloc: Global, network: &[u8], traffic: &[u8]) -> Result<Accepted, Pro
     }
 }
 
-/// The network that an accepted text says, with nothing offered; none where there is no memory for it.
 fn open(alloc: Global, config: &Config) -> Option<Net>
     requires { (format : Format) × KeepsRules format (view config.now) }
     ensures { IfSome result (IsFresh config.now.radices.items config.now.channels.items config.now.depth
@@ -111,7 +106,6 @@ fn open(alloc: Global, config: &Config) -> Option<Net>
     }
 }
 
-/// How many entries of the script no source accepted.
 fn not_offered(net: &Net, script: &Script) -> u64
     ensures { result ≡ length script.now - accepted_total net.now }
 {
@@ -119,7 +113,6 @@ fn not_offered(net: &Net, script: &Script) -> u64
     entries.saturating_sub(net.totals().accepted) as u64
 }
 
-/// What the report tells of a run beside its network.
 fn summary_of(net: &Net, script: &Script, turns: u64, drain: u64, ending: &Ending) -> Summary
     ensures { result ≡ summary_of turns drain ending.now (length script.now - accepted_total net.now) }
 {
@@ -134,8 +127,8 @@ fn summary_of(net: &Net, script: &Script, turns: u64, drain: u64, ending: &Endin
     }
 }
 
-/// Writes the report of a run that ended with this fault, if with any. Want of memory in the run is told after the
-/// report, and a writer that failed before it.
+/// Writes the report of a run that ended with `fault`. `Write` where the writer failed or took nothing. Else
+/// `NoMemory` where memory ran out: if only in the run, the whole report is out.
 pub fn report_run<W: Write>(
     alloc: Global,
     net: &Net,
@@ -154,7 +147,6 @@ pub fn report_run<W: Write>(
     }
 }
 
-/// Runs two texts on this thread, and writes the report.
 fn run_and_report<W: Write>(
     alloc: Global,
     network: &[u8],
@@ -178,10 +170,10 @@ fn run_and_report<W: Write>(
 
 /// Reads two texts to their end, the network first, runs them on this thread, and writes the report.
 ///
-/// `ReadNetwork` and `ReadTraffic` where a reader failed or gave more than 8,388,608 bytes, be there memory for them or
-/// not; `Network` and `Traffic` where a text is refused; `Write` where the writer failed or took nothing, and else
-/// `NoMemory` where memory ran out: a first part of the report may then be out, with `NoMemory` in whole lines, and all
-/// of it only where memory ran out in a turn. With every other fault nothing was written.
+/// `ReadNetwork` and `ReadTraffic` where a reader failed or gave over 8,388,608 bytes, be there memory or not;
+/// `Network` and `Traffic` where a text is refused; `Write` where the writer failed or took nothing; else `NoMemory`.
+/// Only after the last two may a part of the report be out: with `NoMemory` whole lines, and all of it only where
+/// memory ran out in a turn.
 pub fn run_alone<N: Read, F: Read, W: Write>(
     alloc: Global,
     network: &mut N,
@@ -203,7 +195,6 @@ pub fn run_alone<N: Read, F: Read, W: Write>(
     run_and_report(alloc, network, traffic, turns, drain, out)
 }
 
-/// Whether there are at least as many nodes as workers.
 fn has_nodes(config: &Config, workers: usize) -> bool
     requires { (format : Format) × KeepsRules format (view config.now) }
     ensures { result ≡ nat_le workers (node_count config.now.radices.items) }
@@ -214,7 +205,6 @@ fn has_nodes(config: &Config, workers: usize) -> bool
     }
 }
 
-/// Runs two texts by several workers, and writes the report.
 fn run_and_report_together<R: Threads + Wait + Sync, G: Gate + Sync, W: Write>(
     rt: &R,
     alloc: Global,
@@ -256,7 +246,6 @@ fn run_and_report_together<R: Threads + Wait + Sync, G: Gate + Sync, W: Write>(
     report_run(alloc, &ended.net, &summary, ended.fault, out)
 }
 
-/// Reads two texts to their end, the network first, runs them by several workers, and writes the report.
 fn run_by_workers<R: Threads + Wait + Sync, N: Read, F: Read, G: Gate + Sync, W: Write>(
     rt: &R,
     alloc: Global,
@@ -284,10 +273,9 @@ fn run_by_workers<R: Threads + Wait + Sync, N: Read, F: Read, G: Gate + Sync, W:
     run_and_report_together(rt, alloc, network, traffic, options, gate, out)
 }
 
-/// Runs two texts by the options: on this thread with one worker, which asks no gate, and else each worker on a thread
-/// of its own, which asks the gate before each turn. Faults as those of `run_alone`; with several workers also
-/// `Workers` where there are more of them than nodes and `NotStarted` where a thread could not be started, and nothing
-/// was written then.
+/// Runs two texts by the options: one worker on this thread, which asks no gate; several each on a thread of its own,
+/// which asks the gate before each turn. Faults as those of `run_alone`. With several also `Workers`, where they are
+/// more than the nodes, and `NotStarted`, where a thread could not be started: nothing was written then.
 pub fn run_texts<R: Threads + Wait + Sync, N: Read, F: Read, G: Gate + Sync, W: Write>(
     rt: &R,
     alloc: Global,
@@ -309,9 +297,8 @@ pub fn run_texts<R: Threads + Wait + Sync, N: Read, F: Read, G: Gate + Sync, W: 
     run_by_workers(rt, alloc, network, traffic, options, gate, out)
 }
 
-/// Runs the two texts of one input for 100 turns with no drain: up to and with the first line `end` it is the
-/// network text, the rest is the traffic text. Faults as those of `run_alone`; an input that cannot be read is
-/// `ReadNetwork`.
+/// Runs the two texts of one input for 100 turns with no drain: the network's up to and with the first line `end`.
+/// Faults as those of `run_alone`; an input that cannot be read is `ReadNetwork`.
 pub fn run_joined<R: Read, W: Write>(
     alloc: Global,
     input: &mut R,

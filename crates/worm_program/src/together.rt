@@ -22,7 +22,6 @@ pub struct Together {
     pub fault: Option<StepFault>,
 }
 
-/// The turn in which a worker was stopped, if it was.
 fn stopped_turn(stops: &[Stop], worker: usize) -> Option<u64>
     ensures { result ≡ stop_turn stops.now worker }
 {
@@ -38,7 +37,6 @@ fn stopped_turn(stops: &[Stop], worker: usize) -> Option<u64>
     }
 }
 
-/// At each place the turn in which that worker was stopped, if it was.
 fn stops_by_worker(stops: &[Stop]) -> [Option<u64>; 16]
     ensures { AreStopsOf stops.now result }
 {
@@ -49,7 +47,6 @@ fn stops_by_worker(stops: &[Stop]) -> [Option<u64>; 16]
     table
 }
 
-/// Whether some worker found no memory.
 fn lack_memory(stops: &[Stop]) -> bool
     ensures { result ≡ lack_memory stops.now }
 {
@@ -58,7 +55,6 @@ fn lack_memory(stops: &[Stop]) -> bool
         .any(|stop| matches!(stop.why, StopWhy::NoMemory))
 }
 
-/// The drain where nobody was stopped; else nothing, and want of memory is told.
 fn drain_unstopped(alloc: Global, net: &mut Net, stops: &[Stop], most: u64) -> Option<StepFault>
     ensures { DrainsUnstopped most stops.now net.old result net.new }
 {
@@ -72,8 +68,8 @@ fn drain_unstopped(alloc: Global, net: &mut Net, stops: &[Stop], most: u64) -> O
     }
 }
 
-/// The run of a script by so many workers, and then, where none of them was stopped, the drain. `Err` names a worker
-/// whose thread could not be started. Where there is no memory for the parts the network is as it was.
+/// Runs a script by several workers and, where none was stopped, the drain. `Err` names a worker whose thread could
+/// not be started. Without memory for the parts the network is as it was.
 pub fn run_together<R: Threads + Wait + Sync, G: Gate + Sync>(
     rt: &R,
     alloc: Global,

@@ -16,14 +16,12 @@ pub struct Ending {
     pub fault: Option<StepFault>,
 }
 
-/// The turn in which a fault stopped a run.
 #[derive(Clone, Copy, Debug, PartialEq, Eq)]
 struct Stop {
     turn: u64,
     fault: StepFault,
 }
 
-/// The turns below a number with the script's entries, up to the first fault.
 fn take_turns(net: &mut Net, script: &Script, turns: u64) -> Option<Stop>
     ensures { MatchOption result (Turns script.now turns net.old None net.new)
         (λ stop. (stop.turn < turns) × StopsAt script.now stop.turn net.old stop.fault net.new) }
@@ -36,7 +34,7 @@ fn take_turns(net: &mut Net, script: &Script, turns: u64) -> Option<Stop>
     None
 }
 
-/// At most so many turns without entries, ending before a turn with nothing under way, and in one with a fault.
+/// At most `most` turns without entries. It ends before a turn with nothing under way, and in a turn with a fault.
 pub fn drain(alloc: Global, net: &mut Net, most: u64) -> Option<StepFault>
     ensures { Drains most net.old result net.new }
 {
@@ -52,7 +50,7 @@ pub fn drain(alloc: Global, net: &mut Net, most: u64) -> Option<StepFault>
     None
 }
 
-/// The run of a script on this thread: its turns below a number, and then, where none of them was stopped, the drain.
+/// Runs a script on this thread: `turns` turns and, where none of them was stopped, the drain.
 pub fn run_script(alloc: Global, net: &mut Net, script: &Script, turns: u64, most: u64) -> Ending
     ensures { OneThreadRun script.now turns most net.old result.stopped result.fault net.new }
 {

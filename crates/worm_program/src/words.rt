@@ -81,8 +81,8 @@ impl From<io::Error> for WordsFault {
     }
 }
 
-/// All words of the command line, behind the name `wormrun`, whatever the system calls the program. `NotText` where
-/// one of them is not UTF-8, `NoMemory` where there is none for the list.
+/// The words of the command line after the name `wormrun`, whatever the system calls the program. `NotText` where one
+/// is not UTF-8, `NoMemory` where there is none for the list.
 pub fn all_words<R: Env + AllocGlobal>(rt: &R) -> Result<Vec<String>, WordsFault>
     ensures { IfErr result IsNoList }
 {
@@ -91,7 +91,6 @@ pub fn all_words<R: Env + AllocGlobal>(rt: &R) -> Result<Vec<String>, WordsFault
     Ok(words)
 }
 
-/// A file, which has to be named.
 fn file<'a>(alloc: Global, name: &'a str) -> Arg<'a>
     ensures rule { rule_of result ≡ file name.entry.now }
     ensures local { result.global ≡ false }
@@ -99,7 +98,6 @@ fn file<'a>(alloc: Global, name: &'a str) -> Arg<'a>
     Arg::new(alloc, name).required(true).action(ArgAction::Set)
 }
 
-/// `--name N`, where N is a number in its range.
 fn number<'a>(alloc: Global, name: &'a str, range: ValueParser<'a>) -> Arg<'a>
     ensures rule { rule_of result ≡ number name.entry.now range.entry }
     ensures local { result.global ≡ false }
@@ -110,7 +108,6 @@ fn number<'a>(alloc: Global, name: &'a str, range: ValueParser<'a>) -> Arg<'a>
         .value_parser(range)
 }
 
-/// What the words may be.
 fn command<'a>(alloc: Global) -> Result<Command<'a>, AllocError>
     ensures { IfOk result (λ c. app_of c ≡ command) }
 {
@@ -127,7 +124,6 @@ fn command<'a>(alloc: Global) -> Result<Command<'a>, AllocError>
         .arg(drain.default_value("0"))
 }
 
-/// What a parse that succeeded found: each file is named, and each number is there.
 fn words_in<'a>(matches: &ArgMatches<'a>) -> Words<'a>
     requires { IsComplete (rows_of (found_of matches.now)) }
     ensures said { Say (rows_of (found_of matches.now)) result }
@@ -145,8 +141,7 @@ fn words_in<'a>(matches: &ArgMatches<'a>) -> Words<'a>
 }
 
 /// Reads the words, the program's name first: `NETWORK TRAFFIC --turns T [--workers W] [--drain M]`, in any order.
-/// Turns and drain are 0 to 1,000,000, workers are 1 to 16. `Words` where one is unknown or missing, or a number is out
-/// of its range; `NoMemory` where there is none for the parser.
+/// `Words` where one is unknown, missing or out of its range; `NoMemory` where there is none for the parser.
 pub fn read_words<'a>(alloc: Global, words: &'a [&'a str]) -> Result<Words<'a>, WordsFault>
     requires { 0 < length words.now }
     ensures said { IfOk result (Say (matches_of command (texts words.now))) }

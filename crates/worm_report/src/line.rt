@@ -1,5 +1,4 @@
-//! One line of a report, made from its end to its front: the digits of a number come last first, and so each is
-//! written where it stays.
+//! One line of a report, made from its end: a number's last digit comes first, and is written where it stays.
 
 ghost use Rattle.std.specs.Prelude.{◌≡◌, ◌≤◌, ◌+◌, ◌++◌, [], ◌∷◌, List, ℕ, decimal, drop, length};
 ghost use Rattle.std.specs.List.{join_with_byte};
@@ -14,7 +13,7 @@ use worm_flit::{Flit, Kind, Lane};
 /// The room for a line; the longest has three numbers of 39 digits.
 pub const ROOM: usize = 256;
 
-/// A line in memory, made from its end to its front. Its room is used again for the next line.
+/// A line in memory, made from its end to its front.
 #[derive(Drop)]
 pub struct Line {
     bytes: [u8; ROOM],
@@ -46,14 +45,12 @@ impl Line {
         &self.bytes[self.start..]
     }
 
-    /// An empty line again.
     fn clear(&mut self)
         ensures { self.new ≡ [] }
     {
         self.start = ROOM;
     }
 
-    /// Puts a text in front.
     fn text(&mut self, text: &[u8])
         requires { length text.now + length self.old ≤ 256 }
         ensures text { self.new ≡ text.now ++ self.old }
@@ -64,7 +61,6 @@ impl Line {
         self.start = start;
     }
 
-    /// Puts a number in decimal in front, of at most 20 digits.
     fn number(&mut self, number: u64)
         requires { 20 + length self.old ≤ 256 }
         ensures number { self.new ≡ decimal number ++ self.old }
@@ -73,7 +69,6 @@ impl Line {
         self.start = write_digits(number, &mut self.bytes, self.start);
     }
 
-    /// The same of a number of at most 39 digits.
     fn wide(&mut self, number: u128)
         requires { 39 + length self.old ≤ 256 }
         ensures number { self.new ≡ decimal number ++ self.old }
@@ -83,7 +78,6 @@ impl Line {
         self.text(buffer.format(number).as_bytes());
     }
 
-    /// The class and the packet of a flit.
     fn packet(&mut self, flit: Flit)
         requires { 60 + length self.old ≤ 256 }
         ensures line { self.new ≡ space ∷ join_with_byte space (packet_fields flit) ++ self.old }
@@ -95,7 +89,6 @@ impl Line {
         self.text(b" class ");
     }
 
-    /// What a delivered flit carries: its index and its word, or that it is a mark.
     fn load(&mut self, flit: Flit)
         requires { 60 + length self.old ≤ 256 }
         ensures line { self.new ≡ space ∷ join_with_byte space (load_fields flit.kind flit) ++ self.old }
@@ -112,7 +105,6 @@ impl Line {
         }
     }
 
-    /// A channel at a port of a node.
     fn channel(&mut self, node: u8, port: u8, vc: u8)
         requires { 62 + length self.old ≤ 256 }
         ensures line { self.new ≡ decimal node ++ space ∷ (decimal port ++ space ∷ (decimal vc ++ self.old)) }
@@ -125,7 +117,6 @@ impl Line {
         self.number(u64::from(node));
     }
 
-    /// Where a flit under way is.
     fn place(&mut self, place: Place)
         requires { 80 + length self.old ≤ 256 }
         ensures line { self.new ≡ space ∷ join_with_byte space (place_fields place) ++ self.old }
@@ -144,7 +135,6 @@ impl Line {
         }
     }
 
-    /// A flit that arrived at a node.
     fn delivered(&mut self, node: u8, flit: Flit)
         requires { length self.old ≤ 1 }
         ensures { self.new ≡ join_with_byte space (row_fields (Row.Delivered node flit)) ++ self.old }
@@ -157,7 +147,6 @@ impl Line {
         self.text(b"delivered ");
     }
 
-    /// A flit of a lane that is under way, and its place.
     fn underway(&mut self, lane: Lane, held: Held)
         requires { length self.old ≤ 1 }
         ensures { self.new ≡ join_with_byte space (row_fields (Row.Underway lane held)) ++ self.old }
@@ -172,7 +161,6 @@ impl Line {
         self.text(b"underway ");
     }
 
-    /// The options of the run.
     fn options(&mut self, turns: u64, workers: u64, drain: u64)
         requires { length self.old ≤ 1 }
         ensures { self.new ≡ join_with_byte space (row_fields (Row.Options turns workers drain)) ++ self.old }
@@ -185,7 +173,6 @@ impl Line {
         self.text(b"turns ");
     }
 
-    /// How many flits were injected and delivered, and so how many are under way.
     fn total(&mut self, injected: u128, delivered: u128)
         requires { length self.old ≤ 1 }
         ensures { self.new ≡ join_with_byte space (row_fields (Row.Total injected delivered)) ++ self.old }
@@ -198,7 +185,6 @@ impl Line {
         self.text(b"total injected ");
     }
 
-    /// A worker that was stopped, and in which turn.
     fn stopped(&mut self, worker: u64, turn: u64)
         requires { length self.old ≤ 1 }
         ensures { self.new ≡ join_with_byte space (row_fields (Row.Stopped worker turn)) ++ self.old }
@@ -209,7 +195,6 @@ impl Line {
         self.text(b"stopped worker ");
     }
 
-    /// How many entries no source accepted.
     fn not_offered(&mut self, entries: u64)
         requires { length self.old ≤ 1 }
         ensures { self.new ≡ join_with_byte space (row_fields (Row.NotOffered entries)) ++ self.old }
@@ -218,7 +203,6 @@ impl Line {
         self.text(b"not offered ");
     }
 
-    /// That this is a report, and in which format.
     fn header(&mut self)
         requires { length self.old ≤ 1 }
         ensures { self.new ≡ join_with_byte space (row_fields Row.Header) ++ self.old }

@@ -9,14 +9,12 @@ use crate::summary::ReportFault;
 use std::alloc::Global;
 use std::marker::Model;
 
-/// A page with so many bytes is full.
 const FULL: usize = 32768;
 
 /// Lines that the writer has yet to be given.
 #[derive(Drop)]
 pub struct Page {
     bytes: Vec<u8>,
-    /// The room in which the next line is made.
     line: Line,
 }
 
@@ -27,7 +25,7 @@ impl Model for Page {
 }
 
 impl Page {
-    /// An empty page, with its room and that for the line that fills it: lines that are put on it ask for no memory.
+    /// An empty page. It has room for a full page and one line more, so that lines put on it ask for no memory.
     pub fn new(alloc: Global) -> Result<Page, ReportFault>
         ensures ok { IfOk result (λ page. page ≡ []) }
         ensures err { IfErr result (λ fault. fault ≡ ReportFault.NoMemory) }
@@ -62,7 +60,7 @@ impl Page {
         self.bytes.clear();
     }
 
-    /// Puts the line of a row behind the others.
+    /// Puts the line of a row after the others. `NoMemory` where there is no room for it.
     pub fn add(&mut self, row: Row) -> Result<(), ReportFault>
         ensures ok { OnOk result (self.new ≡ self.old ++ row_text row) }
         ensures err { OnErr result (self.new ≡ self.old) }

@@ -19,19 +19,15 @@ use std::io::Write;
 use worm_core::{Held, LaneSet, Net};
 use worm_flit::{Flit, Lane};
 
-/// The lanes of a network that may have something under way.
+/// A network and its busy lanes: all that have something under way are among them.
 #[derive(Drop)]
 struct Busy<'a> {
-    /// Where the memory for the view of a lane comes from.
     alloc: Global,
-    /// The network.
     net: &'a Net,
-    /// Its busy lanes.
     lanes: &'a LaneSet,
     ghost complete: { IsComplete net.now lanes.now },
 }
 
-/// The head of the report, and the options of the run.
 fn put_options<W: Write>(desk: &mut Desk<'_, W>, summary: &Summary) -> Result<(), ReportFault>
     ensures { PutsRows W.contents desk.old desk.new result (options_rows summary.now) }
 {
@@ -44,7 +40,6 @@ fn put_options<W: Write>(desk: &mut Desk<'_, W>, summary: &Summary) -> Result<()
     put_row(desk, row)
 }
 
-/// The turn in which a worker was stopped, if it was.
 fn put_stop<W: Write>(
     desk: &mut Desk<'_, W>,
     worker: u64,
@@ -58,7 +53,6 @@ fn put_stop<W: Write>(
     }
 }
 
-/// The workers that were stopped, by number.
 fn put_stops<W: Write>(desk: &mut Desk<'_, W>, stops: &[Option<u64>; 16]) -> Result<(), ReportFault>
     ensures { PutsRows W.contents desk.old desk.new result (stops_rows stops.now) }
 {
@@ -68,7 +62,6 @@ fn put_stops<W: Write>(desk: &mut Desk<'_, W>, stops: &[Option<u64>; 16]) -> Res
     Ok(())
 }
 
-/// How the run went.
 fn put_opening<W: Write>(desk: &mut Desk<'_, W>, summary: &Summary) -> Result<(), ReportFault>
     ensures { PutsRows W.contents desk.old desk.new result (opening_rows summary.now) }
 {
@@ -76,7 +69,6 @@ fn put_opening<W: Write>(desk: &mut Desk<'_, W>, summary: &Summary) -> Result<()
     put_stops(desk, &summary.stops)
 }
 
-/// The flits that arrived at a node, in order of arrival.
 fn put_arrived<W: Write>(
     desk: &mut Desk<'_, W>,
     node: u8,
@@ -90,7 +82,6 @@ fn put_arrived<W: Write>(
     Ok(())
 }
 
-/// What arrived, by node.
 fn put_delivered<W: Write>(desk: &mut Desk<'_, W>, net: &Net) -> Result<(), ReportFault>
     ensures { PutsRows W.contents desk.old desk.new result (delivered_rows (seen net.now)) }
 {
@@ -101,7 +92,6 @@ fn put_delivered<W: Write>(desk: &mut Desk<'_, W>, net: &Net) -> Result<(), Repo
     Ok(())
 }
 
-/// The flits of a lane that are under way, from the sink back.
 fn put_held<W: Write>(
     desk: &mut Desk<'_, W>,
     lane: Lane,
@@ -115,7 +105,7 @@ fn put_held<W: Write>(
     Ok(())
 }
 
-/// A lane that is not busy is not asked for: there are up to 262,144 of them.
+/// A lane that is not busy is not asked for: of up to 262,144 lanes few are busy.
 fn put_lane<W: Write>(
     desk: &mut Desk<'_, W>,
     busy: &Busy<'_>,
@@ -135,7 +125,6 @@ fn put_lane<W: Write>(
     }
 }
 
-/// What is under way between two nodes, by class.
 fn put_pair<W: Write>(
     desk: &mut Desk<'_, W>,
     busy: &Busy<'_>,
@@ -152,13 +141,12 @@ fn put_pair<W: Write>(
     Ok(())
 }
 
-/// What is under way from a node, by destination.
 fn put_source<W: Write>(desk: &mut Desk<'_, W>, busy: &Busy<'_>, src: u8) -> Result<(), ReportFault>
     requires { src < node_count busy.now.net.now.mesh }
     ensures { PutsRows W.contents desk.old desk.new result (source_rows (seen busy.now.net.now) src) }
 {
     let nodes = busy.net.nodes();
-    // Of a source that has nothing under way no lane is asked for, and in a drained network that is each.
+    // No lane of a source with nothing under way is asked for; in a drained network that is each source.
     if busy.lanes.lacks_all_from(src, nodes, busy.net.classes()) {
         return Ok(());
     }
@@ -168,7 +156,6 @@ fn put_source<W: Write>(desk: &mut Desk<'_, W>, busy: &Busy<'_>, src: u8) -> Res
     Ok(())
 }
 
-/// What is under way, by source.
 fn put_sources<W: Write>(desk: &mut Desk<'_, W>, busy: &Busy<'_>) -> Result<(), ReportFault>
     ensures { PutsRows W.contents desk.old desk.new result (underway_rows (seen busy.now.net.now)) }
 {
@@ -178,7 +165,6 @@ fn put_sources<W: Write>(desk: &mut Desk<'_, W>, busy: &Busy<'_>) -> Result<(), 
     Ok(())
 }
 
-/// What is under way, of the lanes that are busy.
 fn put_underway<W: Write>(
     desk: &mut Desk<'_, W>,
     alloc: Global,
@@ -199,7 +185,6 @@ fn put_underway<W: Write>(
     }
 }
 
-/// Where the flits are.
 fn put_flits<W: Write>(desk: &mut Desk<'_, W>, alloc: Global, net: &Net) -> Result<(), ReportFault>
     ensures { PutsRows W.contents desk.old desk.new result (flits_rows (seen net.now)) }
 {
@@ -207,7 +192,6 @@ fn put_flits<W: Write>(desk: &mut Desk<'_, W>, alloc: Global, net: &Net) -> Resu
     put_underway(desk, alloc, net)
 }
 
-/// What was not offered, and the sums.
 fn put_closing<W: Write>(
     desk: &mut Desk<'_, W>,
     net: &Net,
@@ -225,7 +209,6 @@ fn put_closing<W: Write>(
     put_row(desk, row)
 }
 
-/// All rows.
 fn put_report<W: Write>(
     desk: &mut Desk<'_, W>,
     alloc: Global,
@@ -240,17 +223,16 @@ fn put_report<W: Write>(
     put_closing(desk, net, summary)
 }
 
-/// What the last line says is what the lines before it say. For the proof: it does nothing.
+/// For the proof: it does nothing.
 fn adds_up(net: &Net, summary: &Summary)
     ensures { AddsUp (report (seen net.now) summary.now) }
 {
     net.recall();
 }
 
-/// Writes the report of a network and of the run that led to it. `Write` where the writer failed or took nothing, also
-/// where memory had run out before; `NoMemory` where there was no memory for a page, for a line, for the set of busy
-/// lanes or for the view of a lane. A first part of the report has then gone out, and where memory ran out not all of
-/// it, but whole lines.
+/// Writes the report of a network and of the run that led to it. `Write` where the writer failed or took nothing,
+/// also after memory ran out. `NoMemory` where there was none for a page, a line, the set of busy lanes or a lane's
+/// view: whole lines have then gone out, but not all.
 pub fn write_report<W: Write>(
     alloc: Global,
     net: &Net,
@@ -258,7 +240,7 @@ pub fn write_report<W: Write>(
     out: &mut W,
 ) -> Result<(), ReportFault>
     ensures text { WritesLines (W.contents out.old) (W.contents out.new) result (report (seen net.now) summary.now) }
-    // The flits injected are those of its `delivered` lines and those of its `underway` lines, and its last line says so.
+    // The flits injected are those of its `delivered` and of its `underway` lines, and its last line says so.
     ensures sums { AddsUp (report (seen net.now) summary.now) }
 {
     adds_up(net, summary);

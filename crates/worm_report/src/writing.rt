@@ -16,7 +16,6 @@ pub struct Desk<'a, W> {
     pub page: Page,
 }
 
-/// Gives the writer the bytes, as many in a call as it takes. `Write` where it fails or takes none.
 fn put<W: Write>(out: &mut W, bytes: &[u8]) -> Result<(), ReportFault>
     ensures { Writes (W.contents out.old) (W.contents out.new) result bytes.now }
 {
@@ -30,7 +29,6 @@ fn put<W: Write>(out: &mut W, bytes: &[u8]) -> Result<(), ReportFault>
     Ok(())
 }
 
-/// Gives the writer the lines of the page, which is then empty, also where the writer failed.
 fn turn_page<W: Write>(out: &mut W, page: &mut Page) -> Result<(), ReportFault>
     ensures given { Writes (W.contents out.old) (W.contents out.new) result page.old }
     ensures empty { page.new ≡ [] }
@@ -40,7 +38,6 @@ fn turn_page<W: Write>(out: &mut W, page: &mut Page) -> Result<(), ReportFault>
     given
 }
 
-/// Sees to it that the page has room for a line.
 fn make_room<W: Write>(desk: &mut Desk<'_, W>) -> Result<(), ReportFault>
     ensures { PutsRows W.contents desk.old desk.new result [] }
 {
@@ -51,7 +48,7 @@ fn make_room<W: Write>(desk: &mut Desk<'_, W>) -> Result<(), ReportFault>
     }
 }
 
-/// Puts the line of a row on the page, whose other lines the writer is given where it is full.
+/// Puts a row's line on the page; a page that is full goes to the writer first.
 pub fn put_row<W: Write>(desk: &mut Desk<'_, W>, row: Row) -> Result<(), ReportFault>
     ensures { PutsOrBreaksOff W.contents desk.old desk.new result (row ∷ []) }
 {
@@ -59,8 +56,7 @@ pub fn put_row<W: Write>(desk: &mut Desk<'_, W>, row: Row) -> Result<(), ReportF
     desk.page.add(row)
 }
 
-/// Gives the writer the bytes, and has it pass on what it was given. `Write` where it fails or takes none of what is
-/// left; a first part of the bytes has then gone out.
+/// Gives the writer the bytes, and has it pass them on. `Write` where it fails or takes none: a first part went out.
 pub fn write_bytes<W: Write>(out: &mut W, bytes: &[u8]) -> Result<(), ReportFault>
     ensures { Writes (W.contents out.old) (W.contents out.new) result bytes.now }
 {
@@ -71,7 +67,7 @@ pub fn write_bytes<W: Write>(out: &mut W, bytes: &[u8]) -> Result<(), ReportFaul
     }
 }
 
-/// Gives the writer the lines of the page, and has it pass on what it was given.
+/// Gives the writer the lines of the page, and has it pass them on.
 pub fn close<W: Write>(out: &mut W, page: &Page) -> Result<(), ReportFault>
     ensures { Writes (W.contents out.old) (W.contents out.new) result page.now }
 {

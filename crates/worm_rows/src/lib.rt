@@ -1,13 +1,11 @@
 //! Reports, read from their text: the rows of a run of a network, each a line.
 //!
-//! What rows say has one text, so a text is accepted exactly where it is the text of what is answered, and those rows
-//! are a report of a network of this shape. Else, but for want of memory, the answer is the first fault, fields taken
-//! from the left, and its line: one more than the longest run of finished lines with which some accepted text begins.
+//! What rows say has one text. So a text is accepted exactly where it is the text of the answer, and the answer is a
+//! report of a network of this shape. Else, unless memory runs out, the answer is the first fault and its line.
 //!
-//! `specs/Rows` writes the text of rows and `specs/Rules` says which rows are a report: their order, their ranges, that
-//! each place is one of the network's, and that the sums in the last row are those of the rows. `specs/Reading` judges
-//! one line after another, which the code follows. That a report is of a run, or of this network and not of another of
-//! its shape, no reader can know.
+//! `specs/Rows` writes the text of rows. `specs/Rules` says which are a report: their order, ranges, places and sums.
+//! `specs/Reading` judges one line after another, as the code does. No reader can know that a report is of a run, or
+//! of this network and not of another of its shape.
 #![tactic(auto)]
 
 mod fields;

@@ -16,7 +16,6 @@ use worm_core::Place;
 use worm_flit::Lane;
 use worm_text::{Fields, Why};
 
-/// Class and number of a packet from `src` to `dst`.
 #[tactic(auto, unfolding(crate::specs::Reading::packet_at))]
 fn packet(shape: &Shape, src: u8, dst: u8, fields: &mut Fields<'_>) -> Result<PacketId, Why>
     ensures { Reads (λ x. x) result fields.new (packet_at shape.now src dst fields.old) }
@@ -31,28 +30,24 @@ fn packet(shape: &Shape, src: u8, dst: u8, fields: &mut Fields<'_>) -> Result<Pa
     })
 }
 
-/// A node of the mesh.
 fn node(shape: &Shape, fields: &mut Fields<'_>) -> Result<u8, Why>
     ensures { Reads (λ x. x) result fields.new (below_at (node_count shape.now.mesh) fields.old) }
 {
     Ok(below(fields, u32::from(shape.mesh.nodes()))? as u8)
 }
 
-/// Whether the node has an input buffer at the port: it is the terminal, or flits come in there.
 fn has_buffer(shape: &Shape, node: u8, port: u8) -> bool
     ensures { result ≡ has_buffer shape.now.mesh node port }
 {
     port == 2 * shape.mesh.dims() || has_link(shape, node, port)
 }
 
-/// Whether the node has a neighbour at the port.
 fn has_link(shape: &Shape, node: u8, port: u8) -> bool
     ensures { result ≡ has_neighbour shape.now.mesh node port }
 {
     shape.mesh.neighbour(node, port).is_some()
 }
 
-/// An input buffer that the network has.
 #[tactic(auto, unfolding(crate::specs::Reading::buffer_at))]
 fn buffer(shape: &Shape, fields: &mut Fields<'_>) -> Result<Place, Why>
     ensures { Gives (λ x. x) result (buffer_at shape.now fields.old) }
@@ -67,7 +62,6 @@ fn buffer(shape: &Shape, fields: &mut Fields<'_>) -> Result<Place, Why>
     Ok(Place::Buffer { node, port, vc })
 }
 
-/// A link that the network has.
 #[tactic(auto, unfolding(crate::specs::Reading::link_at))]
 fn link(shape: &Shape, fields: &mut Fields<'_>) -> Result<Place, Why>
     ensures { Gives (λ x. x) result (link_at shape.now fields.old) }
@@ -82,7 +76,6 @@ fn link(shape: &Shape, fields: &mut Fields<'_>) -> Result<Place, Why>
     Ok(Place::Link { node, port, vc })
 }
 
-/// A place that the network has.
 #[tactic(auto, unfolding(crate::specs::Reading::place_at))]
 fn place(shape: &Shape, fields: &mut Fields<'_>) -> Result<Place, Why>
     ensures { Gives (λ x. x) result (place_at shape.now fields.old) }
@@ -102,7 +95,6 @@ fn place(shape: &Shape, fields: &mut Fields<'_>) -> Result<Place, Why>
     }
 }
 
-/// The place of a flit in its packet, and its word.
 #[tactic(auto, unfolding(crate::specs::Reading::load_word_at))]
 fn load_word(fields: &mut Fields<'_>) -> Result<Load, Why>
     ensures { Gives (λ x. x) result (load_word_at fields.old) }
@@ -113,7 +105,6 @@ fn load_word(fields: &mut Fields<'_>) -> Result<Load, Why>
     Ok(Load::Word { index, word })
 }
 
-/// What a delivered flit carried.
 #[tactic(auto, unfolding(crate::specs::Reading::load_at))]
 fn load(fields: &mut Fields<'_>) -> Result<Load, Why>
     ensures { Gives (λ x. x) result (load_at fields.old) }
@@ -203,7 +194,6 @@ fn not_offered(fields: &mut Fields<'_>) -> Result<Row, Why>
     Ok(Row::NotOffered { entries })
 }
 
-/// The sums. `Range` where the flits injected are not those delivered and those under way.
 #[tactic(auto, unfolding(crate::specs::Reading::total_at))]
 fn total(fields: &mut Fields<'_>) -> Result<Row, Why>
     ensures { Gives (λ x. x) result (total_at fields.old) }
@@ -221,7 +211,6 @@ fn total(fields: &mut Fields<'_>) -> Result<Row, Why>
     })
 }
 
-/// What a line says. `UnknownWord` where its first word begins no row.
 #[tactic(auto, unfolding(crate::specs::Reading::row_at))]
 fn row(shape: &Shape, fields: &mut Fields<'_>) -> Result<Row, Why>
     ensures { Gives (λ x. x) result (row_at shape.now fields.old) }
@@ -248,7 +237,7 @@ fn row(shape: &Shape, fields: &mut Fields<'_>) -> Result<Row, Why>
     }
 }
 
-/// The row of a finished line, behind the rows before it.
+/// The row of a finished line, or the first fault in it: `AfterEnd` after the last row.
 #[tactic(auto, unfolding(crate::specs::Reading::judge))]
 pub fn judge(shape: &Shape, standing: &Standing, line: &[u8]) -> Result<Row, Why>
     requires { listed standing.now ≤ 1000000 }

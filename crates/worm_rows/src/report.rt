@@ -16,7 +16,6 @@ use crate::standing::Standing;
 use std::alloc::Global;
 use worm_text::{TextFault, Why, cut_first};
 
-/// Line after line, up to the first fault.
 fn read_rows(alloc: Global, bytes: &[u8], shape: &Shape) -> Result<Vec<Row>, TextFault>
     ensures { AnswersOrFull (λ v. v.items) (RanOut shape.now bytes.now) result (report_of shape.now bytes.now) }
 {
@@ -54,25 +53,19 @@ fn read_rows(alloc: Global, bytes: &[u8], shape: &Shape) -> Result<Vec<Row>, Tex
     Ok(rows)
 }
 
-/// Reads the text of a report of a network of this shape. `NoMemory`, at the line of a row, where there was no room for
-/// it.
-///
-/// `Range` is the fault of a place that the network does not have, and of sums that are not those of the rows.
+/// Reads the text of a report of a network of this shape. `Range` also for a place that the network does not have,
+/// and for sums that are not those of the rows. `NoMemory` at the line of a row for which there is no room.
 pub fn read_report(alloc: Global, bytes: &[u8], shape: &Shape) -> Result<Vec<Row>, TextFault>
-    // What is read is the text of what is answered.
     ensures found { IfOk result (λ rows. IsReport shape.now rows.items × (bytes.now ≡ rows_text rows.items)) }
-    // Each such text is read, unless memory runs out.
     ensures only { (rows : List Row) → IsReport shape.now rows → bytes.now ≡ rows_text rows
         → AnswersOrFull (λ v. v.items) (RanOut shape.now bytes.now) result (Ok rows) }
-    // So is the text that a report was written as.
+    // The text that `worm_report` writes of a report is read, unless memory runs out.
     ensures written { (rows : List printed.Row) → AreSummed rows → IsReport shape.now (map row_of rows)
         → bytes.now ≡ printing.rows_text rows
         → AnswersOrFull (λ v. v.items) (RanOut shape.now bytes.now) result (Ok (map row_of rows)) }
-    // The line of a fault is one more than the longest run of finished lines with which some report begins; memory runs
-    // out at the line of a row.
+    // A fault's line is one more than the longest run of finished lines with which some report begins.
     ensures line { IfErr result (λ fault. RanOut shape.now bytes.now fault
         ⊎ IsReportFaultLine shape.now bytes.now fault.line) }
-    // Which fault it is.
     ensures exact { AnswersOrFull (λ v. v.items) (RanOut shape.now bytes.now) result (report_of shape.now bytes.now) }
 {
     read_rows(alloc, bytes, shape)

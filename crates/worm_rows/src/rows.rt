@@ -17,11 +17,9 @@ pub struct PacketId {
 pub enum Load {
     /// It was the mark that closes its lane.
     Close,
-    /// A word of its packet.
+    /// A word of its packet: its place there, 0 to 31, and its 32 bits.
     Word {
-        /// Its place in the packet, 0 to 31.
         index: u8,
-        /// The 32 bits.
         word: u32,
     },
 }

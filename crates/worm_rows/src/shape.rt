@@ -20,7 +20,6 @@ pub struct Shape {
     pub ghost few_channels: { vcs ≤ 8 },
 }
 
-/// How many channels all classes own.
 fn total(channels: &[u8]) -> u8
     requires few { sum channels.now ≤ 8 }
     ensures { result ≡ sum channels.now }

@@ -11,10 +11,10 @@ use worm_text::Why;
 /// The stops, deliveries and flits under way that a report may list in all.
 pub const MOST_LISTED: u32 = 1_000_000;
 
-/// Where a report stands behind some of its rows.
+/// Where a report stands after some of its rows.
 #[derive(Clone, Copy, Debug, PartialEq, Eq)]
 pub struct Standing {
-    /// The lowest rank that the next row may have; 7 behind the last row.
+    /// The lowest rank that the next row may have; 7 after the last row.
     pub next: u8,
     /// How many stops were listed.
     pub stops: u32,
@@ -40,7 +40,6 @@ pub fn rank(row: &Row) -> u8
     }
 }
 
-/// The highest rank that a row may have where the lowest is `next`.
 fn latest(next: u8) -> u8
     ensures { result ≡ latest next }
 {
@@ -60,7 +59,6 @@ impl Standing {
         }
     }
 
-    /// How many rows were listed.
     fn listed(&self) -> u32
         requires { listed self.now ≤ 1000000 }
         ensures { result ≡ listed self.now }
@@ -68,7 +66,6 @@ impl Standing {
         self.stops + (self.delivered + self.underway)
     }
 
-    /// `TooMany` where a million rows were listed, `Range` where sums are not those of the rows.
     #[tactic(auto, unfolding(crate::specs::Reading::fits_at))]
     fn fits(&self, row: &Row) -> Result<(), Why>
         requires { listed self.now ≤ 1000000 }
@@ -96,7 +93,8 @@ impl Standing {
         }
     }
 
-    /// Whether the row may come next: `Repeated` where it comes too late, `Missing` where a row before it is not there.
+    /// Whether the row may come next: `Repeated` where it comes too late, `Missing` where a row before it is not
+    /// there, `TooMany` past `MOST_LISTED`, `Range` where its sums are not those of the rows.
     #[tactic(auto, unfolding(crate::specs::Reading::admits))]
     pub fn admit(&self, row: &Row) -> Result<(), Why>
         requires { listed self.now ≤ 1000000 }
@@ -112,7 +110,7 @@ impl Standing {
         self.fits(row)
     }
 
-    /// Where the report stands behind one row more.
+    /// Where the report stands after one row more.
     pub fn behind(self, row: &Row) -> Self
         requires { listed self ≤ 1000000 }
         ensures { result ≡ behind self row.now }

@@ -13,7 +13,6 @@ use std::marker::Model;
 use std::simd::Simd;
 use worm_core::Name;
 
-/// The place of the first such byte.
 fn position_of(bytes: &[u8], end: u8) -> Option<usize>
     ensures { result ≡ position (λ b. b == end) bytes.now }
 {
@@ -29,14 +28,12 @@ fn position_of(bytes: &[u8], end: u8) -> Option<usize>
     Some(at + place)
 }
 
-/// The place of the first such byte, where too few are left to be compared at once.
 fn place_byte_by_byte(bytes: &[u8], end: u8) -> Option<usize>
     ensures { result ≡ position (λ b. b == end) bytes.now }
 {
     bytes.iter().position(|b| *b == end)
 }
 
-/// The place of the first such byte among the sixteen from `at` on, counted from `at`.
 fn place_within(bytes: &[u8], at: usize, end: u8) -> Option<usize>
     requires { at + 16 ≤ length bytes.now }
     ensures { result ≡ position (λ b. b == end) (take 16 (drop at bytes.now)) }
@@ -63,16 +60,12 @@ pub fn cut_first(bytes: &[u8], end: u8) -> Option<(&[u8], &[u8])>
     }
 }
 
-/// The digits at the front of some bytes.
 #[derive(Clone, Copy)]
 struct Digits {
-    /// How many there are.
     count: usize,
-    /// The number that they represent, where that is within the limit; else some number past the limit.
     value: u64,
 }
 
-/// The digits at the front of these bytes, and the number that they represent, up to `high`.
 fn front_digits(bytes: &[u8], high: u32) -> Digits
     ensures count { result.count ≡ length (leading_digits bytes.now) }
 
@@ -91,7 +84,6 @@ fn front_digits(bytes: &[u8], high: u32) -> Digits
     Digits { count, value }
 }
 
-/// Whether a field is a lower-case letter, and then at most 15 lower-case letters or digits.
 fn is_name_text(field: &[u8]) -> bool
     ensures { result ≡ is_name field.now }
 {
@@ -103,7 +95,6 @@ fn is_name_text(field: &[u8]) -> bool
     }
 }
 
-/// Whether these are lower-case letters or digits.
 fn are_name_bytes(bytes: &[u8]) -> bool
     ensures { result ≡ list_all is_lower_or_digit bytes.now }
 {
@@ -132,7 +123,7 @@ pub fn name_of(field: &[u8]) -> Option<Name>
 /// `Fields::new(b"depth 2")` has the word `depth` and the number 2; `b"depth "` has the word and an empty field.
 #[derive(Drop)]
 pub struct Fields<'a> {
-    /// What stands behind the last space that was met, if the line's last field was not read yet.
+    /// What stands after the last space that was met; none where the line's last field was read.
     rest: Option<&'a [u8]>,
 }
 
@@ -174,8 +165,7 @@ impl<'a> Fields<'a> {
         }
     }
 
-    /// A number from `low` to `high`. `Missing` where no field is left, `Number` where the field is no numeral, else
-    /// `Range`.
+    /// A number from `low` to `high`. `Missing` where no field is left, `Number` if it is no numeral, else `Range`.
     #[inline(always)]
     pub fn number(&mut self, low: u32, high: u32) -> Result<u32, Why>
         ensures answer { Reads (λ x. x) result self.new (number_at low high self.old) }
@@ -194,7 +184,6 @@ impl<'a> Fields<'a> {
         Ok(front.value as u32)
     }
 
-    /// Takes the next field, and says whether it is a numeral; `count` digits are at the front of the rest.
     fn take_numeral(&mut self, rest: &'a [u8], count: usize) -> bool
         requires rest { self.old ≡ cut space rest.now }
         requires count { count ≡ length (leading_digits rest.now) }
@@ -204,7 +193,6 @@ impl<'a> Fields<'a> {
         match &rest[count..] {
             [] => self.rest = None,
             [b' ', after @ ..] => self.rest = Some(after),
-            // Another byte is in the field: it is no number, and all of it is taken.
             _ => {
                 let _ = self.next();
                 return false;
@@ -239,8 +227,7 @@ impl<'a> Fields<'a> {
         }
     }
 
-    /// The word that begins the line. `Missing` where no field is left, `UnknownWord` where it is no word of a network
-    /// text.
+    /// The word that begins the line. `Missing` where no field is left, `UnknownWord` where it is no such word.
     pub fn key(&mut self) -> Result<Key, Why>
         ensures answer { Reads (λ x. x) result self.new (key_at self.old) }
         ensures one { self.new ≡ drop 1 self.old }

@@ -1,18 +1,12 @@
-//! The texts that a run begins from, read from bytes: a network of the mesh (Dally and Towles, chapters 5 and 13), in
-//! two formats, and the traffic that its sources are to offer.
+//! The texts that a run begins from, read from bytes: a network of the mesh (Dally and Towles, chapters 5 and 13) in
+//! two formats, and the traffic that its sources are to offer. Nothing here opens a file or joins texts.
 //!
-//! A text is lines, each ended by a line feed; a line is fields, parted by single spaces. What is said has one text,
-//! so a text is accepted exactly where it is the text of what is answered. Else, but for want of memory, the answer
-//! is the first fault, fields taken from the left, and its line: one more than the longest run of finished lines with
-//! which some accepted text begins.
+//! A text is lines, each ended by a line feed; a line is fields, parted by single spaces. What is said has at most
+//! one text in a format, and a text is accepted exactly where it is a text of the answer. Else, unless memory runs
+//! out, the answer is the first fault, fields taken from the left, and its line.
 //!
-//! One idea carries the crate: it says twice what a text is, and proves that both say the same. `specs/Network` and
-//! `specs/TrafficText` write the text of a value; `specs/Stages` and `specs/Traffic` judge one line after another, as
-//! steps that may fail on the list of a line's fields. The code follows the second, by a cursor that contracts see as
-//! the fields that are left.
-//!
-//! A text is read to its end first, from any reader (`read_text`). Reading a network takes no memory. Nothing here
-//! opens a file or joins texts, and nothing is known of what a network then does.
+//! The crate says twice what a text is, and proves that both agree. `specs/Network` and `specs/TrafficText` write the
+//! text of a value. `specs/Stages` and `specs/Traffic` judge one line after another, as the code does.
 #![tactic(auto)]
 
 mod fault;

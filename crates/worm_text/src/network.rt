@@ -55,15 +55,12 @@ pub enum Stage {
     },
 }
 
-/// Whether the key is one of these.
 fn is_among(key: Key, keys: &[Key]) -> bool
     ensures { result ≡ list_any (λ k. bytes_eq (word_of key) (word_of k)) keys.now }
 {
     keys.iter().any(|k| key.is(*k))
 }
 
-/// The word with which this line has to begin. `Repeated` where its word began an earlier line, `Missing` where it
-/// comes too early.
 #[tactic(auto, unfolding(crate::specs::Stages::begins))]
 fn begin(fields: &mut Fields<'_>, wanted: Key, earlier: &[Key]) -> Result<(), Why>
     ensures { Gives (λ _. fields.new) result (begins wanted earlier.now fields.old) }
@@ -78,7 +75,6 @@ fn begin(fields: &mut Fields<'_>, wanted: Key, earlier: &[Key]) -> Result<(), Wh
     }
 }
 
-/// The first line, which says the format.
 #[tactic(auto, unfolding(crate::specs::Stages::header_stage))]
 fn header(line: &[u8]) -> Result<Stage, Why>
     ensures { Gives stage_view result (header_stage line.now) }
@@ -92,7 +88,6 @@ fn header(line: &[u8]) -> Result<Stage, Why>
     }
 }
 
-/// The radix of all dimensions, in format 1.
 #[tactic(auto, unfolding(crate::specs::Stages::radix_stage))]
 fn radix_line(fields: &mut Fields<'_>) -> Result<Stage, Why>
     ensures { Gives stage_view result (radix_stage fields.old) }
@@ -103,7 +98,6 @@ fn radix_line(fields: &mut Fields<'_>) -> Result<Stage, Why>
     Ok(Stage::Dims { radix })
 }
 
-/// The radices so far, and how many nodes they make.
 #[derive(Drop)]
 struct Shape {
     radices: ArrayVec<u8, 3>,
@@ -113,7 +107,6 @@ struct Shape {
 }
 
 impl Shape {
-    /// No dimension yet.
     fn new() -> Self
         ensures { result.radices.items ≡ [] }
     {
@@ -123,7 +116,6 @@ impl Shape {
         }
     }
 
-    /// Adds a dimension. `Range` where there are more than 256 nodes then.
     #[tactic(auto, using(crate::proofs::NodeCounts::nodes_push))]
     fn widen(&mut self, radix: u8) -> Result<(), Why>
         requires { length self.old.radices.items < 3 }
@@ -139,7 +131,6 @@ impl Shape {
     }
 }
 
-/// One radix for each of so many dimensions.
 fn copies(dims: u8, radix: u8) -> Result<ArrayVec<u8, 3>, Why>
     requires { dims ≤ 3 }
     ensures { Gives (λ v. v.items) result (copies_at dims [] radix) }
@@ -151,7 +142,6 @@ fn copies(dims: u8, radix: u8) -> Result<ArrayVec<u8, 3>, Why>
     Ok(shape.radices)
 }
 
-/// The radices that the next fields give.
 fn radices(fields: &mut Fields<'_>, dims: u8) -> Result<ArrayVec<u8, 3>, Why>
     requires { dims ≤ 3 }
     ensures { Reads (λ v. v.items) result fields.new (radices_at dims [] fields.old) }
@@ -164,7 +154,6 @@ fn radices(fields: &mut Fields<'_>, dims: u8) -> Result<ArrayVec<u8, 3>, Why>
     Ok(shape.radices)
 }
 
-/// How many dimensions have the radix, in format 1.
 #[tactic(auto, unfolding(crate::specs::Stages::dims_stage))]
 fn dims_line(radix: u8, fields: &mut Fields<'_>) -> Result<Stage, Why>
     ensures { Gives stage_view result (dims_stage radix fields.old) }
@@ -179,7 +168,6 @@ fn dims_line(radix: u8, fields: &mut Fields<'_>) -> Result<Stage, Why>
     })
 }
 
-/// How many dimensions there are, in format 2.
 #[tactic(auto, unfolding(crate::specs::Stages::dims_first_stage))]
 fn dims_first_line(fields: &mut Fields<'_>) -> Result<Stage, Why>
     ensures { Gives stage_view result (dims_first_stage fields.old) }
@@ -190,7 +178,6 @@ fn dims_first_line(fields: &mut Fields<'_>) -> Result<Stage, Why>
     Ok(Stage::Radices { dims })
 }
 
-/// A radix for each dimension, in format 2.
 #[tactic(auto, unfolding(crate::specs::Stages::radices_stage))]
 fn radices_line(dims: u8, fields: &mut Fields<'_>) -> Result<Stage, Why>
     requires { dims ≤ 3 }
@@ -205,7 +192,6 @@ fn radices_line(dims: u8, fields: &mut Fields<'_>) -> Result<Stage, Why>
     })
 }
 
-/// How many flits a buffer has room for.
 #[tactic(auto, unfolding(crate::specs::Stages::depth_stage))]
 fn depth_line(
     format: Format,
@@ -228,14 +214,12 @@ fn depth_line(
     })
 }
 
-/// Whether a class has the name.
 fn is_taken(name: &Name, classes: &[Name]) -> bool
     ensures { result ≡ list_any (λ c. bytes_eq c name.now.bytes) (names_of classes.now) }
 {
     classes.iter().any(|class| class.as_str() == name.as_str())
 }
 
-/// A name that no class has yet.
 #[tactic(auto, unfolding(crate::specs::Stages::new_name_at))]
 fn new_name(fields: &mut Fields<'_>, classes: &[Name]) -> Result<Name, Why>
     ensures { Reads (λ name. name.bytes) result fields.new (new_name_at (names_of classes.now) fields.old) }
@@ -247,7 +231,6 @@ fn new_name(fields: &mut Fields<'_>, classes: &[Name]) -> Result<Name, Why>
     Ok(name)
 }
 
-/// The number of all these channels.
 fn total(channels: &[u8]) -> u32
     requires { length channels.now ≤ 4 }
     ensures { result ≡ sum channels.now }
@@ -255,7 +238,6 @@ fn total(channels: &[u8]) -> u32
     channels.iter().map(|m| u32::from(*m)).sum()
 }
 
-/// How many channels the class owns. `Range` where all classes own more than 8 then.
 #[tactic(auto, unfolding(crate::specs::Stages::channels_at))]
 fn channel_count(format: Format, taken: &[u8], fields: &mut Fields<'_>) -> Result<u8, Why>
     requires { length taken.now ≤ 4 }
@@ -274,7 +256,6 @@ fn channel_count(format: Format, taken: &[u8], fields: &mut Fields<'_>) -> Resul
     }
 }
 
-/// One class more. `TooMany` where there are four.
 #[tactic(auto, unfolding(crate::specs::Stages::one_class))]
 fn one_class(format: Format, mut config: Config, fields: &mut Fields<'_>) -> Result<Stage, Why>
     requires { length config.channels.items ≡ length config.classes.items }
@@ -291,7 +272,6 @@ fn one_class(format: Format, mut config: Config, fields: &mut Fields<'_>) -> Res
     Ok(Stage::Class { format, config })
 }
 
-/// The line `end`. `Missing` where no class stands before it.
 #[tactic(auto, unfolding(crate::specs::Stages::the_end))]
 fn the_end(format: Format, config: Config, fields: &mut Fields<'_>) -> Result<Stage, Why>
     ensures { Gives stage_view result (the_end format (view config) fields.old) }
@@ -303,7 +283,6 @@ fn the_end(format: Format, config: Config, fields: &mut Fields<'_>) -> Result<St
     Ok(Stage::Ended { format, config })
 }
 
-/// The line of a class, or the line `end`.
 #[tactic(auto, unfolding(crate::specs::Stages::class_stage))]
 fn class_line(format: Format, config: Config, fields: &mut Fields<'_>) -> Result<Stage, Why>
     requires { length config.channels.items ≡ length config.classes.items }
@@ -319,7 +298,6 @@ fn class_line(format: Format, config: Config, fields: &mut Fields<'_>) -> Result
 impl Stage {
     ghost use Rattle.worm_text.specs.Stages.{IsSound};
 
-    /// The stage behind a line.
     fn after(self, line: &[u8]) -> Result<Stage, Why>
         requires { IsSound (stage_view self) }
         ensures { Gives stage_view result (judge (stage_view self) line.now) }
@@ -338,7 +316,6 @@ impl Stage {
     }
 }
 
-/// Line after line, up to the first fault.
 fn read_lines(bytes: &[u8]) -> Result<Config, TextFault>
     ensures { Answers view result (network_of bytes.now) }
 {
@@ -366,19 +343,15 @@ fn read_lines(bytes: &[u8]) -> Result<Config, TextFault>
     }
 }
 
-/// Reads a network text of either format (Dally and Towles, chapters 5 and 13). It takes no memory. Where the bytes are
-/// none: the first fault, the fields of a line from the left, and its line, counted from 1 (README, the table of WHY).
+/// Reads a network text of either format (Dally and Towles, chapters 5 and 13); it takes no memory. It refuses other
+/// bytes with the first fault, a line's fields from the left, and its line (README, the list of WHY).
 ///
-/// `wormnet 1`, `radix 4`, `dims 2`, `depth 2`, `class data` and `end`, each line ended by a line feed, are a network
-/// of 16 nodes.
+/// `wormnet 1`, `radix 4`, `dims 2`, `depth 2`, `class data` and `end`, a line each, are a network of 16 nodes.
 pub fn read_network(bytes: &[u8]) -> Result<Config, TextFault>
-    // What is read is a text of what is answered.
     ensures found { IfOk result (λ config. (f : Format) × Keeps f (view config) × (bytes.now ≡ text f (view config))) }
-    // Each such text is read.
     ensures only { (f : Format) (n : Network) → Keeps f n → bytes.now ≡ text f n → Answers view result (Ok n) }
     // The line of a fault is one more than the longest run of finished lines with which an accepted text begins.
     ensures line { IfErr result (λ fault. IsFaultLine bytes.now fault.line) }
-    // Which fault it is.
     ensures exact { Answers view result (network_of bytes.now) }
 {
     read_lines(bytes)

@@ -6,7 +6,6 @@ ghost use Rattle.worm_text.specs.Whole.{IsWhole, ReadsNot};
 use std::alloc::Global;
 use std::io::Read;
 
-/// The calls of `read` that a text may take.
 const MOST_READS: u32 = 10_000_000;
 
 /// Why a text was not read to its end.
@@ -18,7 +17,7 @@ pub enum ReadFault {
     NoMemory,
 }
 
-/// The text with these bytes behind it; nothing where there is no memory for them, or was none before.
+/// Without memory for the bytes it is none, and stays so: the reading goes on, to see whether the text has an end.
 fn lengthened(text: Option<Vec<u8>>, bytes: &[u8]) -> Option<Vec<u8>>
     ensures { IfSome result (λ longer. IsSomeAnd text (λ short. longer.items ≡ short.items ++ bytes.now)) }
 {
@@ -29,9 +28,8 @@ fn lengthened(text: Option<Vec<u8>>, bytes: &[u8]) -> Option<Vec<u8>>
     }
 }
 
-/// The bytes that the reader gives up to its end, so many at most. `Unreadable` where a read fails, where there are
-/// more, or where the end does not come within 10,000,000 reads, be there memory for them or not; `NoMemory` where there
-/// is none for bytes that could be read to their end.
+/// The bytes that the reader gives up to its end. `Unreadable` where a read fails, where there are more than
+/// `most_bytes`, or where no end comes within 10,000,000 reads; else `NoMemory` where there is none for the bytes.
 pub fn read_text<R: Read>(
     alloc: Global,
     reader: &mut R,

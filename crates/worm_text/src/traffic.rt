@@ -26,10 +26,8 @@ use std::collections::BTreeSet;
 use worm_core::{Act, Config, Entry, Name, Script};
 use worm_flit::{Lane, Packet};
 
-/// The most entries that a text may have.
 const MOST_ENTRIES: usize = 10_000;
 
-/// Which of the classes has the name.
 fn place_of(name: &[u8], classes: &[Name]) -> Option<usize>
     ensures { result ≡ position (λ c. bytes_eq c.bytes name.now) classes.now }
 {
@@ -38,7 +36,6 @@ fn place_of(name: &[u8], classes: &[Name]) -> Option<usize>
         .position(|class| class.as_str().as_bytes() == name)
 }
 
-/// A turn, 0 to 1,000,000. `OrderOfTurns` where it is below the last one.
 #[tactic(auto, unfolding(crate::specs::Traffic::turn_at))]
 fn turn(last: u32, fields: &mut Fields<'_>) -> Result<u32, Why>
     ensures { Reads (λ x. x) result fields.new (turn_at last fields.old) }
@@ -50,8 +47,6 @@ fn turn(last: u32, fields: &mut Fields<'_>) -> Result<u32, Why>
     Ok(turn)
 }
 
-/// Puts the words of a packet, all fields that are left, into a list that has none. `Missing` where there is none,
-/// `TooMany` at the 33rd.
 fn read_words(fields: &mut Fields<'_>, words: &mut ArrayVec<u32, 32>) -> Result<(), Why>
     requires { words.old.items ≡ [] }
     ensures read { Gives (λ done. words.new.items) result (words_at [] fields.old) }
@@ -69,14 +64,12 @@ fn read_words(fields: &mut Fields<'_>, words: &mut ArrayVec<u32, 32>) -> Result<
     Ok(())
 }
 
-/// The lanes that earlier lines closed.
 #[derive(Drop)]
 struct ClosedLanes {
     lanes: BTreeSet<Lane>,
 }
 
 impl ClosedLanes {
-    /// None.
     fn new(alloc: Global) -> Self
         ensures { (lane : Lane) → contains lane_cmp result.lanes lane ≡ false }
     {
@@ -85,14 +78,12 @@ impl ClosedLanes {
         }
     }
 
-    /// Whether the lane was closed.
     fn contains(&self, lane: Lane) -> bool
         ensures { result ≡ contains lane_cmp self.now.lanes lane }
     {
         self.lanes.contains(&lane)
     }
 
-    /// The lane is closed from then on.
     fn add(&mut self, lane: Lane) -> Result<(), AllocError>
         ensures added { OnOk result ((other : Lane)
             → contains lane_cmp self.new.lanes other
@@ -102,7 +93,6 @@ impl ClosedLanes {
         Ok(())
     }
 
-    /// The lane that an entry closes is closed from then on.
     fn note(&mut self, entry: &Entry) -> Result<(), AllocError>
         ensures noted { OnOk result ((other : Lane)
             → contains lane_cmp self.new.lanes other
@@ -115,7 +105,6 @@ impl ClosedLanes {
     }
 }
 
-/// A class, by its name. `Name` where no class has it.
 fn class(classes: &[Name], fields: &mut Fields<'_>) -> Result<u8, Why>
     requires { length classes.now ≤ 4 }
     ensures { Reads (λ x. x) result fields.new (class_at (names_of classes.now) fields.old) }
@@ -129,18 +118,14 @@ fn class(classes: &[Name], fields: &mut Fields<'_>) -> Result<u8, Why>
     }
 }
 
-/// What an entry line asks for, but for the words of its packet: they stand beside it, so that the packet is made once,
-/// where it is kept. Where there is none the lane is to be closed.
+/// An entry but its words, which stand beside it: a packet is made once, where it stays. With none the lane closes.
 #[derive(Clone, Copy)]
 struct Asked {
-    /// The turn in which it is asked.
     turn: u32,
-    /// The lane of which it speaks.
     lane: Lane,
 }
 
 impl Asked {
-    /// The entry with these words.
     fn entry(self, words: &[u32]) -> Entry
         requires { length words.now ≤ 32 }
         ensures { entry_view result ≡ said_by self words.now }
@@ -156,18 +141,13 @@ impl Asked {
     }
 }
 
-/// What a reader knows in front of a line.
+/// What a reader knows before a line: how many entries there were, the turn of the last, and the lanes they closed.
 #[derive(Clone, Copy)]
 struct Standing<'a> {
-    /// The network that the text is for.
     config: &'a Config,
-    /// How many nodes it has.
     nodes: u32,
-    /// How many entries stand before the line.
     count: usize,
-    /// The turn of the last of them.
     last: u32,
-    /// The lanes that they closed.
     closed: &'a ClosedLanes,
     ghost counted: { nodes ≡ node_count config.now.radices.items },
     ghost some: { 1 ≤ nodes },
@@ -175,7 +155,6 @@ struct Standing<'a> {
 }
 
 impl<'a> Standing<'a> {
-    /// A lane of the network: source, destination and class.
     #[tactic(auto, unfolding(crate::specs::Traffic::lane_at))]
     fn lane(&self, fields: &mut Fields<'_>) -> Result<Lane, Why>
         ensures { Reads (λ x. x) result fields.new (lane_at (view self.now.config.now) fields.old) }
@@ -186,8 +165,6 @@ impl<'a> Standing<'a> {
         Ok(Lane { src, dst, class })
     }
 
-    /// What stands behind `send`; the words of its packet go into a list that has none. `LaneClosed` where the lane was
-    /// closed.
     #[tactic(auto, unfolding(crate::specs::Traffic::send_at))]
     fn send(&self, fields: &mut Fields<'_>, words: &mut ArrayVec<u32, 32>) -> Result<Asked, Why>
         requires { words.old.items ≡ [] }
@@ -203,8 +180,6 @@ impl<'a> Standing<'a> {
         Ok(Asked { turn, lane })
     }
 
-    /// What stands behind `close`: a turn and a lane. `ManyChannels` where the class owns several, `LaneClosed` where
-    /// the lane was closed.
     #[tactic(auto, unfolding(crate::specs::Traffic::close_at))]
     fn close(&self, fields: &mut Fields<'_>) -> Result<Asked, Why>
         ensures { Gives (λ asked. said_by asked []) result (close_at (view self.now.config.now) self.now.last
@@ -223,8 +198,6 @@ impl<'a> Standing<'a> {
         Ok(Asked { turn, lane })
     }
 
-    /// The entry that a line says, or none at the line `end`; the words of a packet go into a list that has none.
-    /// `TooMany` at the 10,001st entry.
     #[tactic(auto, unfolding(crate::specs::Traffic::entry_at))]
     fn entry(&self, line: &[u8], words: &mut ArrayVec<u32, 32>) -> Result<Option<Asked>, Why>
         requires { words.old.items ≡ [] }
@@ -255,7 +228,6 @@ impl<'a> Standing<'a> {
     }
 }
 
-/// How many nodes these radices make.
 fn node_count(radices: &[u8]) -> u32
     requires each { All (λ k. 1 ≤ k) radices.now }
     requires few { node_count radices.now ≤ 256 }
@@ -268,7 +240,6 @@ fn node_count(radices: &[u8]) -> u32
     nodes
 }
 
-/// The lines behind the header, entry after entry.
 fn read_entries(
     alloc: Global,
     rest: &[u8],
@@ -323,7 +294,6 @@ fn read_entries(
     Err(TextFault { line, why })
 }
 
-/// Line after line, up to the first fault.
 fn read_script(alloc: Global, bytes: &[u8], config: &Config) -> Result<Script, TextFault>
     requires { (f : Format) × Keeps f (view config.now) }
     ensures { AnswersOrFull said_of (IsEntryLine (view config.now) bytes.now) result
@@ -345,26 +315,20 @@ fn read_script(alloc: Global, bytes: &[u8], config: &Config) -> Result<Script, T
     read_entries(alloc, rest, config, nodes)
 }
 
-/// Reads a traffic text for a network that a network text says: the configuration is one as `read_network` answers.
-/// `NoMemory`, at the line of an entry, where there was no room for it. Where the bytes are no such text: the first
-/// fault, the fields of a line from the left, and its line, counted from 1 (README, the table of WHY).
+/// Reads a traffic text for a network that a text says. `NoMemory` at the line of an entry that finds no room. It
+/// refuses other bytes with the first fault, a line's fields from the left, and its line (README, the list of WHY).
 ///
-/// `wormtraffic 1`, `send 0 0 5 data 17 18` and `end`, each line ended by a line feed, offer one packet of two words to
-/// node 0 in turn 0.
+/// `wormtraffic 1`, `send 0 0 5 data 17 18` and `end`, a line each, offer a packet of two words to node 0 in turn 0.
 pub fn read_traffic(alloc: Global, bytes: &[u8], config: &Config) -> Result<Script, TextFault>
     requires { (f : Format) × Keeps f (view config.now) }
-    // What is read is the text of what is answered.
     ensures found { IfOk result (λ script. AreEntries (view config.now) [] (said_of script)
         × (bytes.now ≡ traffic_text (view config.now) (said_of script))) }
-    // Each such text is read, unless memory runs out.
     ensures only { (entries : List Said) → AreEntries (view config.now) [] entries
         → bytes.now ≡ traffic_text (view config.now) entries
         → AnswersOrFull said_of (IsEntryLine (view config.now) bytes.now) result (Ok entries) }
-    // The line of a fault is one more than the longest run of finished lines with which an accepted text begins; memory
-    // runs out at the line of an entry.
+    // A fault's line is one more than the longest run of finished lines with which an accepted text begins.
     ensures line { IfErr result (λ fault. RanOut (IsEntryLine (view config.now) bytes.now) fault
         ⊎ IsTrafficFaultLine (view config.now) bytes.now fault.line) }
-    // Which fault it is.
     ensures exact { AnswersOrFull said_of (IsEntryLine (view config.now) bytes.now) result
         (traffic_of (view config.now) bytes.now) }
 {

@@ -20,7 +20,7 @@ pub enum ViewFault {
     ReadReport,
     /// There was no memory.
     NoMemory,
-    /// The writer failed or took nothing; a first part of what was drawn has gone out.
+    /// The writer failed or took nothing: a first part of what was drawn has gone out.
     Write,
 }
 
@@ -34,7 +34,6 @@ impl From<AllocError> for ViewFault {
     }
 }
 
-/// The program's line on the standard error.
 impl fmt::Display for ViewFault {
     ghost output = { λ fault. Some (line_of fault) };
 

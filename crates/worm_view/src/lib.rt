@@ -1,14 +1,12 @@
-//! What the program `wormview` does: it reads the words of the command line, a network text from the file that they
-//! name and a report of `wormrun` from the standard input, and gives the standard output a picture of the report.
+//! What `wormview` does: it reads the words of the command line, a network text from the file that they name and a
+//! report of `wormrun` from the standard input, and gives the standard output a picture of the report.
 //!
-//! The picture is SVG; with `--text` it is a map for a terminal, and with `--waits` who waits for whom. A fault is one
-//! line on the standard error and a status. Everything goes through readers, a writer and a runtime that the caller
-//! brings, so a contract can name the bytes that they give and take: what the words ask for is proved (`words`), what
-//! each fault tells (`program`), and the line and the status it ends in (`fault`). That the report is read as what it
-//! says is proved in `worm_rows`, what the picture shows in `worm_picture`, and who waits in `worm_waits`.
+//! The picture is SVG; with `--text` it is a map for a terminal, and with `--waits` who waits for whom. A fault is
+//! one line on the standard error, and a status. The caller brings readers, a writer and a runtime, so a contract can
+//! name the bytes that they give and take.
 //!
-//! The program is a crate of its own, and no more than its `main`: its check loads the code of all that it stands on,
-//! where this one reads only what the libraries below say of themselves.
+//! The program calls `run` and no more: its check loads the code of all that it stands on, this crate's only what the
+//! libraries below say of themselves.
 #![tactic(auto)]
 
 ghost use Rattle.clap.specs.Walk.{texts};
@@ -32,7 +30,6 @@ use std::rt::{Env, Files};
 use std::{fs, io};
 pub use words::{Words, WordsFault, all_words, read_words};
 
-/// Opens the file of the network, and draws the report on the standard input.
 fn run_file<R: Files + Input + Print + AllocGlobal>(
     rt: &R,
     words: &Words<'_>,
@@ -45,7 +42,6 @@ fn run_file<R: Files + Input + Print + AllocGlobal>(
     run_view(rt.alloc(), &mut network, &mut report, words.form, &mut out)
 }
 
-/// Says the fault on the standard error, and gives its status.
 fn end<R: Eprint>(rt: &R, ended: Result<(), ViewFault>) -> ExitCode
     ensures { exit_status result ≡ ended_status ended }
 {
@@ -58,8 +54,6 @@ fn end<R: Eprint>(rt: &R, ended: Result<(), ViewFault>) -> ExitCode
     }
 }
 
-/// Says what is wrong with the words on the standard error, or on the standard output what they ask for, and gives the
-/// status.
 fn refuse<R: Print + Eprint>(rt: &R, fault: WordsFault) -> ExitCode
     ensures { exit_status result ≡ words_status fault }
 {
@@ -84,10 +78,6 @@ fn refuse<R: Print + Eprint>(rt: &R, fault: WordsFault) -> ExitCode
     }
 }
 
-/// Reads the words, the program's name first, and runs the program that they ask for.
-///
-/// Words that the parser's definition finds a fault in end with 2, where they ask for help or the version with 0, and
-/// where memory ran out with 6. Words that ask for a map and for who waits have no fault there, and end with 2 or 6.
 #[tactic(auto, using(crate::proofs::Statuses::of_ended, crate::proofs::Statuses::of_words))]
 fn run_words<R: Files + Input + Print + Eprint + AllocGlobal>(rt: &R, words: &[&str]) -> ExitCode
     ensures status { IsStatus (exit_status result) }
@@ -102,8 +92,8 @@ fn run_words<R: Files + Input + Print + Eprint + AllocGlobal>(rt: &R, words: &[&
     }
 }
 
-/// Runs the program on the words of the command line. The status is 0 where the whole picture is out, or where the
-/// words ask for help or the version, 2 for wrong words, and else that of the fault that was said.
+/// Runs the program on the words of the command line. The status is 0 where the whole picture is out or the words ask
+/// for help or the version, 2 for wrong words, and else that of the fault that was said.
 #[tactic(auto, using(crate::proofs::Statuses::of_words))]
 pub fn run<R: Env + Files + Input + Print + Eprint + AllocGlobal>(rt: &R) -> ExitCode
     ensures { IsStatus (exit_status result) }

@@ -35,7 +35,7 @@ pub struct Accepted {
     pub rows: Vec<Row>,
 }
 
-/// Judges both texts, the network first.
+/// Judges both texts, the network first. `Network` and `Report` for a refused text, `NoMemory` if rows find no room.
 pub fn accept(alloc: Global, network: &[u8], report: &[u8]) -> Result<Accepted, ViewFault>
     ensures ok { IfOk result (λ a. IsAccepted network.now report.now (view a.config) a.shape a.rows.items) }
     ensures err { IfErr result (IsRefused network.now report.now) }
@@ -56,14 +56,12 @@ pub fn accept(alloc: Global, network: &[u8], report: &[u8]) -> Result<Accepted, 
     }
 }
 
-/// The two texts, read to their end.
 #[derive(Drop)]
 struct Texts {
     network: Vec<u8>,
     report: Vec<u8>,
 }
 
-/// Reads both texts to their end, the network first.
 fn read_both<N: Read, R: Read>(
     alloc: Global,
     network: &mut N,
@@ -88,7 +86,6 @@ fn read_both<N: Read, R: Read>(
     Ok(Texts { network, report })
 }
 
-/// Gives the writer a drawing, and has it pass on what it was given.
 fn write_drawing<W: Write>(out: &mut W, drawing: &str) -> Result<(), ViewFault>
     ensures ok { OnOk result (Appends (W.contents out.old) (W.contents out.new) drawing.now) }
     ensures fault { IfErr result (λ fault. fault ≡ Write) }
@@ -100,7 +97,6 @@ fn write_drawing<W: Write>(out: &mut W, drawing: &str) -> Result<(), ViewFault>
     }
 }
 
-/// Who waits for whom in the network of a report.
 fn waits_of(alloc: Global, accepted: &Accepted) -> Result<String, AllocError>
     requires { AreChannels accepted.now.config.channels.items }
     ensures { IfOk result (λ drawing. IsDrawn Form.Waits (view accepted.now.config) accepted.now.shape
@@ -117,7 +113,6 @@ fn waits_of(alloc: Global, accepted: &Accepted) -> Result<String, AllocError>
     )
 }
 
-/// What two accepted texts say, in a form.
 fn drawn(alloc: Global, accepted: &Accepted, form: Form) -> Result<String, AllocError>
     requires { AreChannels accepted.now.config.channels.items }
     ensures { IfOk result (λ drawing. IsDrawn form (view accepted.now.config) accepted.now.shape
@@ -132,7 +127,6 @@ fn drawn(alloc: Global, accepted: &Accepted, form: Form) -> Result<String, Alloc
     }
 }
 
-/// Judges two texts, and gives the writer what is drawn of the report.
 fn draw_texts<W: Write>(
     alloc: Global,
     network: &[u8],
@@ -152,11 +146,11 @@ fn draw_texts<W: Write>(
     write_drawing(out, drawing.as_str())
 }
 
-/// Reads the network and the report to their ends, and gives the writer the picture, the map, or who waits for whom.
+/// Reads the network and the report to their ends, and writes the picture, the map, or who waits for whom.
 ///
-/// `ReadNetwork` and `ReadReport` where a reader failed or gave too much; `Network` and `Report` where a text is
-/// refused; `NoMemory` where memory ran out; with these nothing was written. `Write` where the writer failed or took
-/// nothing: a first part of it has then gone out.
+/// `ReadNetwork` and `ReadReport` where a reader failed or gave over 67,108,864 bytes; `Network` and `Report` where a
+/// text is refused; `NoMemory`. With these nothing was written. `Write` where the writer failed or took nothing: a
+/// first part has then gone out.
 pub fn run_view<N: Read, R: Read, W: Write>(
     alloc: Global,
     network: &mut N,

@@ -73,8 +73,8 @@ impl From<io::Error> for WordsFault {
     }
 }
 
-/// All words of the command line, behind the name `wormview`, whatever the system calls the program. `NotText` where
-/// one of them is not UTF-8, `NoMemory` where there is none for the list.
+/// The words of the command line after the name `wormview`, whatever the system calls the program. `NotText` where
+/// one is not UTF-8, `NoMemory` where there is none for the list.
 pub fn all_words<R: Env + AllocGlobal>(rt: &R) -> Result<Vec<String>, WordsFault>
     ensures { IfErr result IsNoList }
 {
@@ -83,7 +83,6 @@ pub fn all_words<R: Env + AllocGlobal>(rt: &R) -> Result<Vec<String>, WordsFault
     Ok(words)
 }
 
-/// The word that names the file of the network.
 fn network_word<'a>(alloc: Global) -> Arg<'a>
     ensures rule { rule_of result ≡ network_word }
     ensures local { result.global ≡ false }
@@ -94,7 +93,6 @@ fn network_word<'a>(alloc: Global) -> Arg<'a>
         .action(ArgAction::Set)
 }
 
-/// The word that asks for a map.
 fn text_word<'a>(alloc: Global) -> Arg<'a>
     ensures rule { rule_of result ≡ text_word }
     ensures local { result.global ≡ false }
@@ -105,7 +103,6 @@ fn text_word<'a>(alloc: Global) -> Arg<'a>
         .action(ArgAction::SetTrue)
 }
 
-/// The word that asks for who waits for whom.
 fn waits_word<'a>(alloc: Global) -> Arg<'a>
     ensures rule { rule_of result ≡ waits_word }
     ensures local { result.global ≡ false }
@@ -116,7 +113,6 @@ fn waits_word<'a>(alloc: Global) -> Arg<'a>
         .action(ArgAction::SetTrue)
 }
 
-/// The program's name, and what help and the version say of it.
 fn described<'a>(alloc: Global) -> Command<'a>
     ensures { app_of result ≡ described }
 {
@@ -125,7 +121,6 @@ fn described<'a>(alloc: Global) -> Command<'a>
     )
 }
 
-/// What the parser knows of the program.
 fn command<'a>(alloc: Global) -> Result<Command<'a>, AllocError>
     ensures { IfOk result (λ c. app_of c ≡ command) }
 {
@@ -135,7 +130,6 @@ fn command<'a>(alloc: Global) -> Result<Command<'a>, AllocError>
         .arg(waits_word(alloc))
 }
 
-/// Whether a flag was given.
 fn is_given<'a>(matches: &ArgMatches<'a>, name: &str) -> bool
     ensures { result ≡ is_set name.now (rows_of (found_of matches.now)) }
 {
@@ -143,7 +137,6 @@ fn is_given<'a>(matches: &ArgMatches<'a>, name: &str) -> bool
     matches.get_one::<bool>(name).unwrap_or(false)
 }
 
-/// What a parse that succeeded found: the network is named. `Both` where two forms are asked for.
 fn words_in<'a>(matches: &ArgMatches<'a>) -> Result<Words<'a>, WordsFault>
     requires { IsSome (first_of (codes "NETWORK") (rows_of (found_of matches.now))) }
     ensures said { IfOk result (Say (rows_of (found_of matches.now))) }
@@ -159,8 +152,7 @@ fn words_in<'a>(matches: &ArgMatches<'a>) -> Result<Words<'a>, WordsFault>
 }
 
 /// Reads the words, the program's name first: `NETWORK [--text | --waits]`, in any order. `Asked` for `--help` and
-/// `--version`, `Words` where one is unknown or missing, `Both` where a map and the waits are asked for, `NoMemory`
-/// where there is none for the parser.
+/// `--version`, `Words` where one is unknown or missing, `Both` for both flags, `NoMemory` where the parser has none.
 pub fn read_words<'a>(alloc: Global, words: &'a [&'a str]) -> Result<Words<'a>, WordsFault>
     ensures said { IfOk result (Say (matches_of command (texts words.now))) }
     ensures faultless { OnOk result (fault_of command (texts words.now) ≡ []) }

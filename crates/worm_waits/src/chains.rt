@@ -13,7 +13,7 @@ use worm_rows::PacketId;
 pub struct Chain {
     /// The front.
     pub wait: Wait,
-    /// How many packets there are in it behind the front's.
+    /// How many packets follow the front's in it, at most as many as there are waits.
     pub behind: usize,
 }
 
@@ -26,28 +26,24 @@ pub fn cause(wait: &Wait) -> PacketId
     }
 }
 
-/// Whether a front waits for another packet than its own.
 fn is_for_another(wait: &Wait) -> bool
     ensures { result ≡ spec.is_for_another wait.now }
 {
     cause(wait) != wait.flit.packet
 }
 
-/// Whether the packet waits, and for another one.
 fn waits_as(wait: &Wait, packet: PacketId) -> bool
     ensures { result ≡ spec.waits_as packet wait.now }
 {
     wait.flit.packet == packet && is_for_another(wait)
 }
 
-/// Whether this is a wait for the packet, and not of itself.
 fn waits_for(wait: &Wait, packet: PacketId) -> bool
     ensures { result ≡ spec.waits_for packet wait.now }
 {
     cause(wait) == packet && is_for_another(wait)
 }
 
-/// The first front of a packet that waits for another one.
 fn first_of(waits: &[Wait], packet: PacketId) -> Option<Wait>
     ensures { result ≡ find (spec.waits_as packet) waits.now }
 {
@@ -64,21 +60,18 @@ pub fn next(waits: &[Wait], packet: PacketId) -> Option<PacketId>
     }
 }
 
-/// Whether another packet waits for this one.
 fn is_waited_for(waits: &[Wait], packet: PacketId) -> bool
     ensures { result ≡ list_any (spec.waits_for packet) waits.now }
 {
     waits.iter().any(|wait| waits_for(wait, packet))
 }
 
-/// Whether a chain begins at this front.
 fn begins(waits: &[Wait], wait: &Wait) -> bool
     ensures { result ≡ spec.begins waits.now wait.now }
 {
     is_for_another(wait) && !is_waited_for(waits, wait.flit.packet)
 }
 
-/// How many packets there are behind a front.
 fn count_behind(waits: &[Wait], wait: &Wait) -> usize
     ensures value { result ≡ length (spec.behind waits.now wait.now) }
     ensures few { result ≤ length waits.now }
@@ -97,7 +90,6 @@ fn count_behind(waits: &[Wait], wait: &Wait) -> usize
     count
 }
 
-/// The chain of a front.
 fn chain_of(waits: &[Wait], wait: &Wait) -> Chain
     ensures { result ≡ spec.chain_of waits.now wait.now }
 {

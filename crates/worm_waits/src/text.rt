@@ -52,14 +52,12 @@ impl fmt::Display for Reason {
     }
 }
 
-/// This text as it is.
 fn put(text: &mut String, more: &str) -> Result<(), AllocError>
     ensures { OnOk result (string_bytes text.new ≡ string_bytes text.old ++ more.now) }
 {
     text.push_str(more)
 }
 
-/// A front that cannot go on, and why.
 fn add_wait(text: &mut String, wait: &Wait) -> Result<(), AllocError>
     ensures { OnOk result (string_bytes text.new ≡ string_bytes text.old ++ spec.wait_line wait.now) }
 {
@@ -78,7 +76,6 @@ fn add_wait(text: &mut String, wait: &Wait) -> Result<(), AllocError>
     )
 }
 
-/// Fronts that cannot go on, line by line.
 fn add_waits(text: &mut String, waits: &[Wait]) -> Result<(), AllocError>
     ensures { OnOk result (string_bytes text.new ≡ string_bytes text.old ++ flat_map spec.wait_line waits.now) }
 {
@@ -88,7 +85,6 @@ fn add_waits(text: &mut String, waits: &[Wait]) -> Result<(), AllocError>
     Ok(())
 }
 
-/// A packet.
 fn add_name(text: &mut String, packet: PacketId) -> Result<(), AllocError>
     ensures { OnOk result (string_bytes text.new ≡ string_bytes text.old ++ spec.packet_text packet) }
 {
@@ -99,7 +95,6 @@ fn add_name(text: &mut String, packet: PacketId) -> Result<(), AllocError>
     write!(text, "lane {src} to {dst} class {class} packet {number}")
 }
 
-/// A packet for which the one before it waits.
 fn add_next(text: &mut String, packet: PacketId) -> Result<(), AllocError>
     ensures { OnOk result (string_bytes text.new ≡ string_bytes text.old ++ spec.next_text packet) }
 {
@@ -107,7 +102,6 @@ fn add_next(text: &mut String, packet: PacketId) -> Result<(), AllocError>
     write!(text, " waits for {name}")
 }
 
-/// The packets behind a front, each after the one that waits for it.
 fn add_behind(text: &mut String, waits: &[Wait], wait: &Wait) -> Result<(), AllocError>
     ensures { OnOk result (string_bytes text.new
         ≡ string_bytes text.old ++ flat_map spec.next_text (chain.behind waits.now wait.now)) }
@@ -125,7 +119,6 @@ fn add_behind(text: &mut String, waits: &[Wait], wait: &Wait) -> Result<(), Allo
     Ok(())
 }
 
-/// A chain, from the front at which it begins.
 fn add_chain(text: &mut String, waits: &[Wait], wait: &Wait) -> Result<(), AllocError>
     ensures { OnOk result (string_bytes text.new ≡ string_bytes text.old ++ spec.chain_line waits.now wait.now) }
 {
@@ -134,7 +127,6 @@ fn add_chain(text: &mut String, waits: &[Wait], wait: &Wait) -> Result<(), Alloc
     put(text, "\n")
 }
 
-/// The chain, if it has so many packets behind its front's.
 fn add_if_of(
     text: &mut String,
     waits: &[Wait],
@@ -151,7 +143,6 @@ fn add_if_of(
     }
 }
 
-/// Those of the chains that have so many packets behind their front's.
 fn add_chains_of(
     text: &mut String,
     waits: &[Wait],
@@ -167,7 +158,6 @@ fn add_chains_of(
     Ok(())
 }
 
-/// The chains, the longest first.
 fn add_chains(text: &mut String, waits: &[Wait], chains: &[Chain]) -> Result<(), AllocError>
     ensures { OnOk result (string_bytes text.new
         ≡ string_bytes text.old ++ spec.chain_lines waits.now chains.now) }
@@ -179,7 +169,6 @@ fn add_chains(text: &mut String, waits: &[Wait], chains: &[Chain]) -> Result<(),
     Ok(())
 }
 
-/// The text of these waits.
 fn waits_text(alloc: Global, waits: &[Wait]) -> Result<String, AllocError>
     ensures { IfOk result (λ text. string_bytes text ≡ spec.waits_text waits.now) }
 {
@@ -192,12 +181,11 @@ fn waits_text(alloc: Global, waits: &[Wait]) -> Result<String, AllocError>
     Ok(text)
 }
 
-/// Who waits for whom, in the network of a report's rows, with this shape, these channels for its classes, and buffers
-/// of `depth` flits, 1 to 16.
+/// Who waits for whom in the network of a report's rows, with buffers of `depth` flits, 1 to 16.
 ///
-/// A line for each front of a buffer that cannot go on, by node, port and channel: its packet and its flit, the port
-/// that it wants, and the packet that holds its way, or the one at the front of the full buffer before it. Then a line
-/// for each chain: a packet, the one for which it waits, and so on, the longest first.
+/// A line for each front of a buffer that cannot go on, by node, port and channel: its packet and flit, the port that
+/// it wants, and the packet that holds its way or is first in the channel that lacks a credit. Then a line for each
+/// chain, the longest first: a packet, the one for which it waits, and so on.
 pub fn who_waits(
     alloc: Global,
     shape: &Shape,

@@ -18,7 +18,7 @@ use worm_rows::{Load, PacketId, Row};
 pub enum Reason {
     /// This other packet holds the channel that it wants.
     Held(PacketId),
-    /// The buffer of its channel is full, and so are its credits spent: this packet is at the front of that buffer.
+    /// Its channel has no credit: the flits in the buffer and on the link fill it. This packet has the first of them.
     NoCredit(PacketId),
 }
 
@@ -33,7 +33,6 @@ pub struct Wait {
     pub reason: Reason,
 }
 
-/// The flit that went into a channel last: it is on the link, or else in the buffer.
 fn last_at(station: &Station) -> Option<Flit>
     ensures { result ≡ spec.last_at station.now }
 {
@@ -43,7 +42,6 @@ fn last_at(station: &Station) -> Option<Flit>
     }
 }
 
-/// The flit that leaves a channel first: it is in the buffer, or else on the link.
 fn first_at(station: &Station) -> Option<Flit>
     ensures { result ≡ spec.first_at station.now }
 {
@@ -53,14 +51,12 @@ fn first_at(station: &Station) -> Option<Flit>
     }
 }
 
-/// The flit at the front of a buffer.
 fn front_of(station: &Station) -> Option<Flit>
     ensures { result ≡ spec.front_of station.now }
 {
     station.held.as_slice().first().copied()
 }
 
-/// The packet of a flit that is not its tail.
 fn unfinished(packets: &Packets, flit: &Flit) -> Option<PacketId>
     ensures { result ≡ spec.unfinished (tail_in packets.now) flit.now }
 {
@@ -71,7 +67,6 @@ fn unfinished(packets: &Packets, flit: &Flit) -> Option<PacketId>
     }
 }
 
-/// The packet that holds a channel.
 fn holder(packets: &Packets, station: &Station) -> Option<PacketId>
     ensures { result ≡ spec.holder (tail_in packets.now) station.now }
 {
@@ -81,7 +76,6 @@ fn holder(packets: &Packets, station: &Station) -> Option<PacketId>
     }
 }
 
-/// Whether the packet holds the channel.
 fn is_held_by(packets: &Packets, packet: PacketId, station: &Station) -> bool
     ensures { result ≡ spec.is_held_by (tail_in packets.now) packet station.now }
 {
@@ -91,7 +85,6 @@ fn is_held_by(packets: &Packets, packet: PacketId, station: &Station) -> bool
     }
 }
 
-/// The want of a credit for a channel: as many flits are on the link as its buffer has places left.
 fn no_credit(depth: u8, station: &Station) -> Option<Reason>
     ensures { result ≡ spec.no_credit depth station.now }
 {
@@ -105,7 +98,6 @@ fn no_credit(depth: u8, station: &Station) -> Option<Reason>
     }
 }
 
-/// What bars a channel to a packet: another one that holds it, or else the want of a credit.
 fn bar(depth: u8, packets: &Packets, packet: PacketId, station: &Station) -> Option<Reason>
     ensures { result ≡ spec.bar depth (tail_in packets.now) packet station.now }
 {
@@ -121,8 +113,6 @@ fn bar(depth: u8, packets: &Packets, packet: PacketId, station: &Station) -> Opt
     }
 }
 
-/// What a sink took: the packet of the flit, and its place there; none where the row is no delivery to this node of
-/// this class.
 fn taken(row: &Row, node: u8, class: u8) -> Option<(PacketId, u8)>
     ensures { result ≡ spec.taken node class row.now }
 {
@@ -144,7 +134,6 @@ fn taken(row: &Row, node: u8, class: u8) -> Option<(PacketId, u8)>
     }
 }
 
-/// What a node's sink took last of a class.
 fn last_taken(rows: &[Row], node: u8, class: u8) -> Option<(PacketId, u8)>
     ensures { result ≡ spec.last_taken node class rows.now }
 {
@@ -155,7 +144,6 @@ fn last_taken(rows: &[Row], node: u8, class: u8) -> Option<(PacketId, u8)>
     last
 }
 
-/// What bars the sink's channel to a packet: another one of which flits are still to be delivered.
 fn sink_bar(packets: &Packets, packet: PacketId, last: Option<(PacketId, u8)>) -> Option<Reason>
     ensures { result ≡ spec.sink_bar (tail_in packets.now) packet last }
 {
@@ -171,7 +159,6 @@ fn sink_bar(packets: &Packets, packet: PacketId, last: Option<(PacketId, u8)>) -
     }
 }
 
-/// Whether the class owns one channel.
 fn is_single(channels: &ClassChannels, class: u8) -> bool
     ensures { result ≡ (slice_index channels.now class == 1) }
 {
@@ -179,7 +166,6 @@ fn is_single(channels: &ClassChannels, class: u8) -> bool
 }
 
 impl Scene<'_> {
-    /// Whether the flit may go by this channel of the next node, which it enters by this port.
     fn is_way(&self, flit: &Flit, port: u8, station: &Station) -> bool
         ensures { result ≡ spec.is_way (told self.now) flit.now port station.now }
     {
@@ -188,7 +174,6 @@ impl Scene<'_> {
             && (flit.index == 0 || is_held_by(self.packets, flit.packet, station))
     }
 
-    /// Whether such a channel is barred to it by nothing.
     fn is_open(&self, flit: &Flit, port: u8, station: &Station) -> bool
         ensures { result ≡ spec.is_open (told self.now) flit.now port station.now }
     {
@@ -196,7 +181,6 @@ impl Scene<'_> {
             && bar(self.depth, self.packets, flit.packet, station).is_none()
     }
 
-    /// The first channel by which the flit may go.
     fn way<'b>(&self, flit: &Flit, port: u8, stations: &'b [Station]) -> Option<&'b Station>
         ensures { option_copied result ≡ find (spec.is_way (told self.now) flit.now port) stations.now }
     {
@@ -205,7 +189,6 @@ impl Scene<'_> {
             .find(|station| self.is_way(flit, port, station))
     }
 
-    /// Whether the flit may go by one of them that is barred to it by nothing.
     fn has_open(&self, flit: &Flit, port: u8, stations: &[Station]) -> bool
         ensures { result ≡ list_any (spec.is_open (told self.now) flit.now port) stations.now }
     {
@@ -214,7 +197,6 @@ impl Scene<'_> {
             .any(|station| self.is_open(flit, port, station))
     }
 
-    /// What bars the first of them to it.
     fn first_bar(&self, flit: &Flit, port: u8, stations: &[Station]) -> Option<Reason>
         ensures { result ≡ spec.first_bar (told self.now) flit.now port stations.now }
     {
@@ -224,7 +206,6 @@ impl Scene<'_> {
         }
     }
 
-    /// What bars all channels of the next node to a flit that enters it by this port.
     fn barred(&self, flit: &Flit, port: u8, stations: &[Station]) -> Option<Reason>
         ensures { result ≡ spec.barred (told self.now) flit.now port stations.now }
     {
@@ -235,14 +216,12 @@ impl Scene<'_> {
         }
     }
 
-    /// A node with what is shown of it.
     fn node_at(&self, node: u8) -> Option<&NodeView>
         ensures { option_copied result ≡ find (spec.is_node node) self.now.views.now }
     {
         self.views.iter().find(|view| view.node == node)
     }
 
-    /// What bars the next node to a flit that leaves by this port.
     fn ahead(&self, flit: &Flit, port: u8) -> Option<Reason>
         ensures { result ≡ spec.ahead (told self.now) flit.now port }
     {
@@ -256,7 +235,6 @@ impl Scene<'_> {
         }
     }
 
-    /// What bars the sink to a flit.
     fn at_sink(&self, flit: &Flit) -> Option<Reason>
         ensures { result ≡ spec.at_sink (told self.now) flit.now }
     {
@@ -269,7 +247,6 @@ impl Scene<'_> {
         }
     }
 
-    /// What bars a port to a flit.
     fn reason(&self, flit: &Flit, port: u8) -> Option<Reason>
         ensures { result ≡ spec.reason (told self.now) flit.now port }
     {
@@ -280,7 +257,6 @@ impl Scene<'_> {
         }
     }
 
-    /// A flit that cannot go on.
     fn wait_of(&self, flit: Flit) -> Option<Wait>
         ensures { result ≡ spec.wait_of (told self.now) flit }
     {
@@ -289,7 +265,6 @@ impl Scene<'_> {
         Some(Wait { flit, port, reason })
     }
 
-    /// The front of a buffer, if it cannot go on.
     fn wait_at(&self, station: &Station) -> Option<Wait>
         ensures { result ≡ spec.wait_at (told self.now) station.now }
     {
@@ -299,7 +274,6 @@ impl Scene<'_> {
         }
     }
 
-    /// The fronts of a node's buffers that cannot go on.
     fn waits_in(&self, alloc: Global, view: &NodeView) -> Result<Vec<Wait>, AllocError>
         ensures { IfOk result (λ waits. waits.items ≡ spec.waits_in (told self.now) view.now) }
     {
@@ -310,7 +284,6 @@ impl Scene<'_> {
             .collect(alloc)
     }
 
-    /// The fronts of these nodes' buffers that cannot go on.
     fn waits_of(&self, alloc: Global, views: &[NodeView]) -> Result<Vec<Wait>, AllocError>
         ensures { IfOk result (λ waits. waits.items ≡ flat_map (spec.waits_in (told self.now)) views.now) }
     {

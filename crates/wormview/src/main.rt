@@ -1,7 +1,5 @@
 //! The program `wormview`: a report of `wormrun` on the standard input and the file of its network in, a picture out.
-//!
-//! What it does is a library, `worm_view`: a program's check loads the code of all libraries that it stands on, and
-//! would do so for each edit that must fail.
+//! What it does is the library `worm_view`; here it gets the host's words, files and streams.
 #![tactic(auto)]
 
 use std::process::ExitCode;
