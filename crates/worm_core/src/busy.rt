@@ -1,5 +1,4 @@
-//! Which lanes may have something under way, found in one pass over all places that hold flits: so a report asks for
-//! the views of these lanes alone, and not of all that the network has.
+//! Lanes that may have something under way, found in one pass over the network: a report views these alone.
 
 ghost use Rattle.std.specs.Prelude.{ℕ, true, false, not, ◌≡◌, ◌*◌, ◌<◌, ◌≤◌, IfOk, IsSome, IsTrue, drop, length};
 ghost use Rattle.std.specs.Prelude.{replicate};
@@ -30,9 +29,7 @@ use worm_term::Source;
 /// ```
 #[derive(Drop)]
 pub struct LaneSet {
-    /// How many nodes the network has.
     nodes: u16,
-    /// How many classes.
     classes: u8,
     /// Which lanes are in the set, by source, then destination, then class.
     marks: Vec<bool>,
@@ -49,7 +46,6 @@ impl Model for LaneSet {
     ghost invariant = { λ s. (s.nodes ≤ 256) × (s.classes ≤ 4) };
 }
 
-/// Whether none of these marks is set.
 fn are_clear(marks: &[bool]) -> bool
     ensures { result ≡ list_all not marks.now }
 {
@@ -57,7 +53,6 @@ fn are_clear(marks: &[bool]) -> bool
 }
 
 impl LaneSet {
-    /// No lane of a network with so many nodes and classes.
     fn new(alloc: Global, nodes: u16, classes: u8) -> Result<LaneSet, AllocError>
         requires nodes { nodes ≤ 256 }
         requires classes { classes ≤ 4 }
@@ -76,7 +71,6 @@ impl LaneSet {
         })
     }
 
-    /// Where the lane's mark stands.
     fn line(&self, lane: Lane) -> usize
         ensures { result ≡ lane_line self.now lane }
     {
@@ -91,8 +85,7 @@ impl LaneSet {
         self.marks.get(self.line(lane)).copied().unwrap_or(true)
     }
 
-    /// Whether no lane from this source is in the set, where the network has so many nodes and classes. Where none is
-    /// this may not be found, if it is asked for another network.
+    /// Whether no lane from this source is in the set; false where the set is of other numbers of nodes or classes.
     pub fn lacks_all_from(&self, src: u8, nodes: u16, classes: u8) -> bool
         ensures { IsTrue result → LacksAllFrom self.now src nodes classes }
     {
@@ -107,7 +100,6 @@ impl LaneSet {
         are_clear(&self.marks[first..first + row])
     }
 
-    /// Puts the lane into the set.
     fn mark(&mut self, lane: Lane)
         ensures { self.new ≡ with_mark self.old lane }
     {
@@ -117,7 +109,6 @@ impl LaneSet {
         }
     }
 
-    /// Puts in the lanes of these flits.
     fn mark_flits(&mut self, flits: &[Flit])
         ensures kept { KeepsMarks self.old self.new }
         ensures marked { AllMarked self.new flits.now }
@@ -127,7 +118,6 @@ impl LaneSet {
         }
     }
 
-    /// Puts in the lanes of what the source has yet to feed.
     fn mark_source(&mut self, source: &Source, count: u8)
         requires { count ≡ classes source.now }
         ensures kept { KeepsMarks self.old self.new }
@@ -140,7 +130,6 @@ impl LaneSet {
         }
     }
 
-    /// Puts in the lanes of what an input channel holds.
     fn mark_channel(&mut self, router: &Router, port: u8, vc: u8)
         requires { IsPlace router.now port vc }
         ensures kept { KeepsMarks self.old self.new }
@@ -153,7 +142,6 @@ impl LaneSet {
         }
     }
 
-    /// Puts in the lanes of what the channels of an input port hold.
     fn mark_port(&mut self, router: &Router, port: u8, vcs: u8)
         requires port { port ≤ terminal router.now }
         requires vcs { vcs ≡ width router.now }
@@ -165,7 +153,6 @@ impl LaneSet {
         }
     }
 
-    /// Puts in the lanes of what all input channels hold.
     fn mark_router(&mut self, router: &Router, last: u8, vcs: u8)
         requires last { last ≡ terminal router.now }
         requires few { last ≤ 6 }
@@ -179,7 +166,6 @@ impl LaneSet {
         }
     }
 
-    /// Puts in the lanes of what is on the link out of the node by this port.
     fn mark_link(&mut self, fabric: &Fabric, node: u8, port: u8)
         requires { IsSome (neighbour_of fabric.now.mesh node port) }
         ensures kept { KeepsMarks self.old self.new }
@@ -190,7 +176,6 @@ impl LaneSet {
         }
     }
 
-    /// The same, if there is a link.
     fn mark_port_out(&mut self, fabric: &Fabric, node: u8, port: u8)
         ensures kept { KeepsMarks self.old self.new }
         ensures marked { IsMarkedOut fabric.now self.new node port }
@@ -200,7 +185,6 @@ impl LaneSet {
         }
     }
 
-    /// Puts in the lanes of what is on all links out of the node.
     fn mark_out(&mut self, fabric: &Fabric, node: u8)
         ensures kept { KeepsMarks self.old self.new }
         ensures marked { (o : ℕ) → o < 2 * length fabric.now.mesh → IsMarkedOut fabric.now self.new node o }
@@ -211,7 +195,6 @@ impl LaneSet {
     }
 }
 
-/// Puts in the lanes of what all sources and routers hold.
 fn mark_nodes(fabric: &Fabric, set: &mut LaneSet)
     requires { IsFramed fabric.now }
     ensures kept { KeepsMarks set.old set.new }
@@ -224,7 +207,6 @@ fn mark_nodes(fabric: &Fabric, set: &mut LaneSet)
     }
 }
 
-/// Puts in the lanes of what all links hold.
 fn mark_links(fabric: &Fabric, set: &mut LaneSet)
     ensures kept { KeepsMarks set.old set.new }
     ensures marked { LinksMarked fabric.now set.new (node_count fabric.now.mesh) }
@@ -234,7 +216,6 @@ fn mark_links(fabric: &Fabric, set: &mut LaneSet)
     }
 }
 
-/// The lanes of all flits that are under way.
 fn busy_lanes(fabric: &Fabric, alloc: Global) -> Result<LaneSet, AllocError>
     requires { IsFramed fabric.now }
     ensures { IfOk result (IsComplete fabric.now) }
@@ -246,9 +227,7 @@ fn busy_lanes(fabric: &Fabric, alloc: Global) -> Result<LaneSet, AllocError>
 }
 
 impl Net {
-    /// Lanes among which are all that have something under way; for any other [`Net::lane_view`] has nothing under
-    /// way. It takes one pass over the network. A lane may be in the set with nothing under way. `NoMemory` where
-    /// there is none for the set.
+    /// A set of all lanes with something under way, maybe of more, by one pass. `NoMemory`: there is none for it.
     pub fn busy(&self, alloc: Global) -> Result<LaneSet, NoMemory>
         ensures { IfOk result (IsComplete self.now) }
     {

@@ -1,10 +1,8 @@
-//! The network as one value: nodes and links by number, on a k-ary n-mesh with wormhole switching and credits
-//! (Dally and Towles, chapters 5, 13 and 16), its steps and runs of them.
+//! The network as one value: nodes and links by number, on a k-ary n-mesh with wormhole switching and credits (Dally
+//! and Towles, chapters 5, 13 and 16), its steps and runs of them.
 //!
 //! One idea carries the crate: `Net` is a region of all nodes whose invariant is soundness. The theory's laws give it
-//! back after each step and each turn, so no call can make or keep a network that is not sound.
-//!
-//! Nothing is said of time, nor that anything is ever delivered.
+//! back after each step and turn, so no call makes or keeps an unsound network. Nothing is said of time or delivery.
 #![tactic(auto)]
 
 mod acceptable;

@@ -28,7 +28,7 @@ pub struct Net {
 }
 
 impl Drop for Net {
-    /// Written out, so that who lets a network go calls this: a derived one is proved anew in each crate, part by part.
+    /// Written out, so that who lets a network go calls this: a derived one is proved anew in each crate.
     fn drop(self) {
         let Net { region: _ } = self;
     }
@@ -73,11 +73,9 @@ impl Net {
         ensures sound { IsNet self.now }
         ensures delivers { DeliversInOrder self.now }
     {
-        // For the proof: it opens what holds of a network.
         let _region = &self.region;
     }
 
-    /// The lists of the network, and what holds of them.
     pub(crate) fn fabric(&self) -> &Fabric
         ensures same { result.now ≡ self.now }
         ensures sound { IsNet self.now }
@@ -85,7 +83,6 @@ impl Net {
         self.region.fabric()
     }
 
-    /// The network's region by itself.
     pub(crate) fn into_region(self) -> Region
         ensures same { result ≡ self }
         ensures sound { IsNet self }
@@ -94,7 +91,6 @@ impl Net {
         region
     }
 
-    /// The network that has this region.
     pub(crate) fn of(region: Region) -> Net
         requires { IsNet region }
         ensures { result ≡ region }
@@ -126,7 +122,6 @@ impl Net {
         self.region.fabric().node(node).sink.delivered()
     }
 
-    /// The flits of the class that the node's source accepted, in order.
     pub(crate) fn accepted_flits(&self, node: u8, class: u8) -> &[Flit]
         requires node { node < node_count self.now.mesh }
         requires class { class < length self.now.channels }
@@ -161,10 +156,7 @@ impl Net {
     }
 
     /// One step (Dally and Towles, chapters 13 and 16): at most one move of one lane. `Done` where it was enabled,
-    /// `Idle` where its place is there and it was not, which no Offer or Close is answered. `NoSuchPlace` where the
-    /// network has not its node, port, channel or class, or its port has not the link that it needs; `Refused` where a
-    /// source refuses a packet or a mark, also for its lane's nodes or class; `NoMemory` where it was enabled and there
-    /// is none for an accepted or a delivered flit. With these, and with `Idle`, nothing changed.
+    /// else `Idle`, which no Offer or Close is answered. [`StepFault`] tells each fault, which changes nothing.
     pub fn step(&mut self, step: &Step) -> Result<Moved, StepFault>
         ensures answers { Answers self.old (event_of step.now) result self.new }
         ensures asked { AsksSource (event_of step.now) → result ≡ Ok Idle → ⊥ }
@@ -178,7 +170,6 @@ impl Net {
         self.region.step(step)
     }
 
-    /// The turns of all nodes with these entries, in rising number.
     pub(crate) fn all_turns(&mut self, entries: &Due<'_>) -> Result<(), StepFault>
         ensures exact { Turn entries.now self.old (result_err result) self.new }
         ensures reaches { Reaches self.old self.new }
@@ -186,7 +177,6 @@ impl Net {
         self.region.all_turns(entries)
     }
 
-    /// The steps in turn, up to the first fault.
     #[tactic(auto, using(crate::proofs::RunSteps::answered_on))]
     fn take_steps(&mut self, steps: &[Step]) -> RunSoFar
         ensures answered { AreAnswered self.old (take result.done steps.now) self.new }
@@ -207,10 +197,7 @@ impl Net {
         RunSoFar { done, fault: None }
     }
 
-    /// Takes the steps one after another, up to the first fault; the steps before it stand. After any such run what
-    /// was delivered of a lane whose class owns one channel, followed by what is under way, is what was injected; of
-    /// other classes that holds packet by packet; and nothing follows a close mark. The fault is the first with which a
-    /// step is answered: `NoSuchPlace`, `Refused` or `NoMemory`, as `step` tells them.
+    /// Takes the steps one after another, up to the first fault of [`Net::step`]; the steps before it stand.
     pub fn run(&mut self, steps: &[Step]) -> RunSoFar
         ensures answered { AreAnswered self.old (take result.done steps.now) self.new }
         ensures stopped { StopsBehind result.done steps.now result.fault self.new }
@@ -226,9 +213,8 @@ impl Net {
         so_far
     }
 
-    /// The turns of all nodes, in rising number: the turn of this number, with the script's entries for it. After a
-    /// fault what was done before it stands. `Refused` where a source refuses an entry, `NoMemory` where there is none
-    /// for an accepted or a delivered flit.
+    /// The turns of all nodes, in rising number, with the script's entries for this turn. After `Refused`, where a
+    /// source refuses an entry, or `NoMemory`, for an accepted or a delivered flit, what came before stands.
     pub fn turn(&mut self, turn: u64, script: &Script) -> Result<(), StepFault>
         ensures exact { Turn (due turn script.now) self.old (result_err result) self.new }
         ensures reaches { Reaches self.old self.new }

@@ -5,9 +5,8 @@ ghost use Rattle.worm_script.specs.declared.entry.Entry.{Entry};
 ghost use Rattle.worm_region.specs.NewNet.{IsOneNetwork};
 ghost use Rattle.worm_region.specs.Turns.{IsDetermined, RunIsDetermined, Turn};
 
-/// Turns are functions of the network and the script: unless want of memory ends it, a turn leads from one network to
-/// one alone, with one fault or none; so does a run of turns with its drain, which then is stopped at one place, if at
-/// all. And of each configuration there is one new network.
+/// Unless want of memory ends it, a turn, or a run of turns with its drain, leads from a network and a script to one
+/// network, and stops at one place with one fault, or not at all. Each configuration has one new network.
 #[tactic(auto, using(crate::proofs::Determined::turn_one, crate::proofs::Determined::run_one))]
 pub fn turns_are_determined()
     ensures opening { (mesh : List ℕ) (channels : List ℕ) (depth : ℕ) (names : List (List ℕ)) →

@@ -16,11 +16,6 @@ impl Net {
     }
 
     /// The network's parts. It takes no memory.
-    ///
-    /// ```text
-    /// let parts = net.into_parts();
-    /// let net = Net::from_parts(parts);
-    /// ```
     pub fn into_parts(self) -> NetParts
         ensures parts { parts_state result ≡ self }
         ensures sound { IsNet (parts_state result) }
@@ -28,9 +23,7 @@ impl Net {
         self.into_region().into_parts()
     }
 
-    /// The network of these parts, which are those of one: each node at its own number, each link with the room for as
-    /// many flits and as many credits as all its channels' buffers hold, and all together sound, as `into_parts` gives
-    /// them. It takes no memory.
+    /// The network of these parts, all together sound, as `into_parts` gives them. It takes no memory.
     pub fn from_parts(parts: NetParts) -> Net
         requires { IsNet (parts_state parts) }
         ensures { result ≡ parts_state parts }

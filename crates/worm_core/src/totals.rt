@@ -21,7 +21,6 @@ pub struct Totals {
     pub accepted: u128,
 }
 
-/// How many packets and marks these flits end.
 fn packets_ended(flits: &[Flit]) -> u64
     ensures value { result ≡ packets_in flits.now }
     ensures bound { result ≤ length flits.now }
@@ -58,8 +57,7 @@ impl Net {
         totals
     }
 
-    /// Whether as many flits were delivered as were accepted, so that a drain is over. Reads the number of flits under
-    /// way, or lengths alone.
+    /// Whether as many flits were delivered as accepted, so that a drain is over. Reads one count, or lengths alone.
     pub fn is_drained(&self) -> bool
         ensures { result ≡ (injected_total self.now == delivered_total self.now) }
     {
@@ -70,7 +68,6 @@ impl Net {
         injected == delivered
     }
 
-    /// The flits that all sources accepted, and those that all sinks took.
     fn flits(&self) -> (u128, u128)
         ensures injected { result.0 ≡ injected_total self.now }
         ensures delivered { result.1 ≡ delivered_total self.now }
@@ -84,7 +81,6 @@ impl Net {
         (injected, delivered)
     }
 
-    /// How many flits one node's source accepted.
     fn node_injected(&self, node: u8) -> u128
         requires { node < node_count self.now.mesh }
         ensures value { result ≡ injected_below self.now node (length self.now.channels) }
@@ -97,7 +93,6 @@ impl Net {
         injected
     }
 
-    /// The sums over one node.
     fn node_totals(&self, node: u8) -> Totals
         requires { node < node_count self.now.mesh }
         ensures injected { result.injected ≡ injected_below self.now node (length self.now.channels) }

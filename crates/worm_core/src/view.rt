@@ -1,5 +1,4 @@
-//! What is read of a lane: which flits of it are under way, and where. A route is walked from the source to the sink by
-//! a recursion that adds the nearer places first.
+//! A lane's flits under way and where, by a recursion along its route that adds those nearest the sink first.
 
 ghost use Rattle.std.specs.Prelude.{true, ◌≡◌, ◌*◌, ◌<◌, ◌≤◌, [], ◌∷◌, ◌++◌, OnOk, IfOk, IsSome, length, flat_map};
 ghost use Rattle.std.specs.Prelude.{drop};
@@ -48,14 +47,12 @@ pub struct LaneView {
     pub underway: Vec<Held>,
 }
 
-/// Whether the flit is the lane's.
 fn is_of(flit: &Flit, lane: Lane) -> bool
     ensures { result ≡ is_of_lane lane flit.now }
 {
     flit.lane.src == lane.src && flit.lane.dst == lane.dst && flit.lane.class == lane.class
 }
 
-/// Adds the flit, if it is the lane's.
 fn put(held: &mut Vec<Held>, lane: Lane, flit: Flit, place: Place) -> Result<(), AllocError>
     ensures { OnOk result (held.new.items ≡ held.old.items ++ at_place place (of_lane lane (flit ∷ []))) }
 {
@@ -65,7 +62,6 @@ fn put(held: &mut Vec<Held>, lane: Lane, flit: Flit, place: Place) -> Result<(),
     Ok(())
 }
 
-/// Adds what the source has yet to feed of the lane.
 fn put_unfed(held: &mut Vec<Held>, lane: Lane, source: &Source) -> Result<(), AllocError>
     requires { lane.class < classes source.now }
     ensures { OnOk result (held.new.items ≡ held.old.items
@@ -79,7 +75,6 @@ fn put_unfed(held: &mut Vec<Held>, lane: Lane, source: &Source) -> Result<(), Al
     Ok(())
 }
 
-/// Adds what an input channel of the node's router holds of the lane.
 fn put_channel(
     held: &mut Vec<Held>,
     lane: Lane,
@@ -100,7 +95,6 @@ fn put_channel(
     Ok(())
 }
 
-/// Adds what a channel of the link out of the node's port holds of the lane.
 fn put_line(
     fabric: &Fabric,
     held: &mut Vec<Held>,
@@ -122,7 +116,6 @@ fn put_line(
     Ok(())
 }
 
-/// Adds what the buffers of an input port hold of the lane.
 fn put_buffers(
     fabric: &Fabric,
     held: &mut Vec<Held>,
@@ -145,7 +138,6 @@ fn put_buffers(
     Ok(())
 }
 
-/// Adds what the link out of a port holds of the lane.
 fn put_lines(
     fabric: &Fabric,
     held: &mut Vec<Held>,
@@ -166,7 +158,6 @@ fn put_lines(
     Ok(())
 }
 
-/// Adds what is under way of the lane past the node, from the sink back.
 fn put_past(fabric: &Fabric, held: &mut Vec<Held>, lane: Lane, node: u8) -> Result<(), AllocError>
     requires framed { IsFramed fabric.now }
     requires node { node < node_count fabric.now.mesh }
@@ -184,7 +175,6 @@ fn put_past(fabric: &Fabric, held: &mut Vec<Held>, lane: Lane, node: u8) -> Resu
     Ok(())
 }
 
-/// All that is under way of the lane, from the sink back.
 fn underway(fabric: &Fabric, alloc: Global, lane: Lane) -> Result<Vec<Held>, AllocError>
     requires framed { IsFramed fabric.now }
     requires src { lane.src < node_count fabric.now.mesh }
@@ -200,8 +190,7 @@ fn underway(fabric: &Fabric, alloc: Global, lane: Lane) -> Result<Vec<Held>, All
 }
 
 impl Net {
-    /// The lane's flits: how many were delivered, and those under way with their places, from the sink back (Dally and
-    /// Towles, chapters 8 and 13). Condition: [`Net::has_lane`]. `NoMemory` where there is none for the list.
+    /// The lane's flits (Dally and Towles, chapters 8 and 13), if [`Net::has_lane`]. `NoMemory`: none for the list.
     pub fn lane_view(&self, alloc: Global, lane: Lane) -> Result<LaneView, NoMemory>
         requires src { lane.src < node_count self.now.mesh }
         requires dst { lane.dst < node_count self.now.mesh }

@@ -1,8 +1,7 @@
 //! A queue that no other lies close to.
 ghost use Rattle.std.specs.Prelude.{◌≡◌};
 
-/// A queue with unused bytes on both sides, so that two threads that use other queues do not wait for this one's cache
-/// lines.
+/// A queue with unused bytes round it: threads that use other queues do not wait for its cache lines.
 #[derive(Drop)]
 pub struct Apart<Q> {
     _before: [u64; 8],

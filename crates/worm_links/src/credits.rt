@@ -1,5 +1,4 @@
-//! The ends of a credit line: the queue on which credits, the numbers of channels, go the other way (Dally and Towles,
-//! chapter 13).
+//! The ends of a credit line, the queue on which channel numbers go back as credits (Dally and Towles, chapter 13).
 ghost use Rattle.std.specs.Prelude.{◌≡◌, ◌*◌, ◌<◌, ◌≤◌, [], ◌∷◌, ◌++◌, length, List, IfOk, IfErr, IfSome, IfNone};
 ghost use Rattle.crossbeam_queue.specs.Passes.{view, IsPassOf, IsSamePass};
 ghost use Rattle.worm_links.specs.History.{sender, taker, whole};
@@ -18,6 +17,7 @@ type CreditKnown = Known<Opened, u8>;
 
 type CreditLine = RuledArrayQueue<u8, CreditKnown, CreditRule>;
 
+// What an end may do with the queue, and knows of it.
 type CreditPass = Pass<u8, CreditKnown>;
 
 /// What was sent is what was taken, and then what the queue holds.
@@ -33,7 +33,6 @@ impl Protocol<u8, CreditKnown> for CreditRule {
     ghost first = { whole no_link [] [] };
 }
 
-// What a push does to what the sender knows, and what it learns where the queue is full.
 struct Sends;
 
 impl Outcome<u8, CreditKnown> for Sends {
@@ -52,7 +51,6 @@ impl Lesson<u8, CreditKnown> for Sends {
     ghost fact = { HoldsSent (λ c. c) (λ c. ⊤) IsCreditHistory };
 }
 
-// What a pop does to what the taker knows, and what it learns where the queue is empty.
 struct Takes;
 
 impl Outcome<u8, CreditKnown> for Takes {
@@ -80,9 +78,7 @@ impl Lesson<u8, CreditKnown> for Takes {
 /// ```
 #[derive(Drop)]
 pub struct CreditTx {
-    // The queue, which the other end shares.
     line: Arc<Apart<CreditLine>>,
-    // What this end may do with it, and knows of it.
     pass: CreditPass,
 }
 
@@ -114,9 +110,7 @@ impl Model for CreditTx {
 /// ```
 #[derive(Drop)]
 pub struct CreditRx {
-    // The queue, which the other end shares.
     line: Arc<Apart<CreditLine>>,
-    // What this end may do with it, and knows of it.
     pass: CreditPass,
 }
 
@@ -146,9 +140,7 @@ impl Model for CreditRx {
 /// ```
 #[derive(Drop)]
 pub struct CreditEnds {
-    // The queue, which the other end shares.
     line: Arc<Apart<CreditLine>>,
-    // What the ends may do with it, and know of it.
     whole: CreditPass,
 }
 
@@ -171,7 +163,6 @@ impl Model for CreditEnds {
     ghost invariant = { λ t. IsWhole IsCreditHistory (arc_value t.line).queue t.whole };
 }
 
-// Divides the first pass of a queue into those of a sender and a taker of the link that `B` names.
 fn divide<B: Naming>(line: &CreditLine, pass: &mut CreditPass, cfg: LinkCfg) -> CreditPass
     requires link { opened cfg [] ≡ B.link }
     requires queue { IsPassOf line.now pass.old × (view pass.old ≡ whole no_link [] []) }
@@ -263,8 +254,7 @@ pub fn reunite_credits(tx: CreditTx, rx: CreditRx) -> CreditEnds
 }
 
 impl CreditEnds {
-    /// Each credit that was sent is for a channel of the link, and what was taken is the beginning of that. It costs
-    /// nothing to ask.
+    /// Each credit sent is for a channel of the link, and those taken are the first of them. It costs nothing to ask.
     pub fn history(&self)
         ensures sent { IsCreditHistory (opened self.now.link []) self.now.sent }
         ensures taken { (rest : List _) × (self.now.sent ≡ self.now.taken ++ rest) }

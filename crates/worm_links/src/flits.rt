@@ -22,6 +22,7 @@ type FlitKnown = Known<Opened, Flit>;
 
 type FlitLine = RuledArrayQueue<u128, FlitKnown, FlitRule>;
 
+// What an end may do with the queue, and knows of it.
 type FlitPass = Pass<u128, FlitKnown>;
 
 /// What was sent is what was taken, and then the flits of the words that the queue holds.
@@ -38,7 +39,6 @@ impl Protocol<u128, FlitKnown> for FlitRule {
     ghost first = { whole no_link [] [] };
 }
 
-// What a push does to what the sender knows, and what it learns where the queue is full.
 struct Sends;
 
 impl Outcome<u128, FlitKnown> for Sends {
@@ -57,7 +57,6 @@ impl Lesson<u128, FlitKnown> for Sends {
     ghost fact = { HoldsSent flit_of IsWord IsLinkHistory };
 }
 
-// What a pop does to what the taker knows, and what it learns where the queue is empty.
 struct Takes;
 
 impl Outcome<u128, FlitKnown> for Takes {
@@ -85,9 +84,7 @@ impl Lesson<u128, FlitKnown> for Takes {
 /// ```
 #[derive(Drop)]
 pub struct FlitTx {
-    // The queue, which the other end shares.
     line: Arc<Apart<FlitLine>>,
-    // What this end may do with it, and knows of it.
     pass: FlitPass,
 }
 
@@ -120,9 +117,7 @@ impl Model for FlitTx {
 /// ```
 #[derive(Drop)]
 pub struct FlitRx {
-    // The queue, which the other end shares.
     line: Arc<Apart<FlitLine>>,
-    // What this end may do with it, and knows of it.
     pass: FlitPass,
 }
 
@@ -153,9 +148,7 @@ impl Model for FlitRx {
 /// ```
 #[derive(Drop)]
 pub struct Ends {
-    // The queue, which the other end shares.
     line: Arc<Apart<FlitLine>>,
-    // What the ends may do with it, and know of it.
     whole: FlitPass,
 }
 
@@ -179,7 +172,7 @@ impl Model for Ends {
     ghost invariant = { λ t. IsWhole IsLinkHistory (arc_value t.line).queue t.whole };
 }
 
-/// The flits that a link's first flits continue, channel by channel: the proof of a call of [`link_after`] picks them.
+/// What a link's first flits continue, channel by channel: the proof of a call of [`link_after`] picks it.
 pub trait Opening {
     ghost use Rattle.std.specs.Prelude.{List};
     ghost use Rattle.worm_flit.specs.declared.Flit.{Flit};
@@ -193,7 +186,6 @@ impl Opening for Brand {
     ghost past = { [] };
 }
 
-// Divides the first pass of a queue into those of a sender and a taker of the link that `B` names.
 fn divide<B: Naming>(line: &FlitLine, pass: &mut FlitPass, cfg: LinkCfg) -> FlitPass
     requires link { cfg ≡ B.link.cfg }
     requires past { AreWorms B.link.past }
@@ -205,7 +197,7 @@ fn divide<B: Naming>(line: &FlitLine, pass: &mut FlitPass, cfg: LinkCfg) -> Flit
     line.another::<Roles<B>>(pass)
 }
 
-/// The ends of a new link, whose queue has room for channels times depth flits. The first flit of a channel may be any.
+/// The ends of a new link, whose queue holds channels times depth flits. The first flit of a channel may be any.
 pub fn link(alloc: Global, cfg: LinkCfg) -> Result<(FlitTx, FlitRx), LinkFault>
     requires channels { (0 < cfg.channels) × (cfg.channels ≤ 8) }
     requires depth { (0 < cfg.depth) × (cfg.depth ≤ 17) }
@@ -217,9 +209,8 @@ pub fn link(alloc: Global, cfg: LinkCfg) -> Result<(FlitTx, FlitRx), LinkFault>
     link_after::<Brand>(alloc, cfg)
 }
 
-/// The ends of a new link over which other flits are held to have gone before: on each channel the first flit continues
-/// the last of those. They exist for contracts alone, so nothing is pushed and no memory is taken for them. A call
-/// picks them in its proof, or is generic in `B` itself.
+/// The ends of a new link over which the flits of `B` are held to have gone before: each channel's first flit
+/// continues the last of those. They exist for contracts alone: nothing is pushed, and no memory is taken for them.
 pub fn link_after<B: Opening>(alloc: Global, cfg: LinkCfg) -> Result<(FlitTx, FlitRx), LinkFault>
     requires channels { (0 < cfg.channels) × (cfg.channels ≤ 8) }
     requires depth { (0 < cfg.depth) × (cfg.depth ≤ 17) }
@@ -244,7 +235,6 @@ pub fn link_after<B: Opening>(alloc: Global, cfg: LinkCfg) -> Result<(FlitTx, Fl
     Ok((sender, taker))
 }
 
-// Pushes the word of a flit.
 fn send<R: Wait>(rt: &R, line: &FlitLine, pass: &mut FlitPass, flit: Flit) -> Result<(), Flit>
     requires queue { IsPassOf line.now pass.old × (view pass.old ≡ sender (view pass.old).link (view pass.old).sent) }
     requires continues { Continues (on_channel flit.vc ((view pass.old).link.past ++ (view pass.old).sent)) flit }
@@ -261,7 +251,6 @@ fn send<R: Wait>(rt: &R, line: &FlitLine, pass: &mut FlitPass, flit: Flit) -> Re
     }
 }
 
-// The flit of a word that a link carried.
 fn flit_in(word: u128) -> Flit
     requires { IsWord word }
     ensures { result ≡ flit_of word }

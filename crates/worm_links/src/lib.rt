@@ -1,12 +1,9 @@
-//! The two queues of a link between neighbouring routers, whose ends lie in any two threads. Flits go one way, credits
-//! the other (Dally and Towles, chapters 12 and 13).
+//! The two queues of a link between neighbouring routers, whose ends lie in any two threads: flits one way, credits
+//! the other (Dally and Towles, chapters 12 and 13). They are lock-free and bounded. Only making them takes memory.
 //!
-//! The sender's end knows all that was sent, the taker's end all that was taken. One rule of the queue ties them,
-//! whoever runs when: what was sent is what was taken, and then what the queue holds. The rule also says that what was
-//! sent is a history of the link. So the taker, who never sees what was sent, needs no check of what it takes.
-//!
-//! The queues are lock-free and bounded. Only making them takes memory. A full queue and an empty one are answered at
-//! once. A push and a pop of what is left may wait within their queue, so it is not claimed that they return.
+//! One rule ties the ends, whoever runs when: what was sent is what was taken, and then what the queue holds. What
+//! was sent is also a history of the link. So the taker, who never sees what was sent, needs no check. A push and a
+//! pop of what is left may wait within their queue, so it is not claimed that they return.
 #![tactic(auto)]
 
 mod apart;

@@ -14,12 +14,10 @@ use worm_router::Router;
 use worm_term::{Sink, Source};
 use worm_wires::LinkState;
 
-/// In how many groups a new network's nodes are made, those of a group one behind the other in memory. A group is the
-/// nodes whose number has one remainder by this, which is how many workers there may be. A worker of 2, 4, 8 or 16 has
-/// whole groups, so that what it uses in a turn lies in few pages.
+/// In how many groups a new network's nodes are made: a group's nodes, of one remainder by this, lie together in
+/// memory. A worker of 2, 4, 8 or 16 has whole groups, so that what it uses in a turn lies in few pages.
 const GROUPS: u16 = 16;
 
-/// The node of this number in a new network.
 fn make_node(
     alloc: Global,
     mesh: &Mesh,
@@ -47,7 +45,6 @@ fn make_node(
     })
 }
 
-/// Empty places for so many nodes.
 fn make_places(alloc: Global, count: u16) -> Result<Vec<Option<Node>>, AllocError>
     ensures { IfOk result (λ v. length v.items ≡ count) }
 {
@@ -58,7 +55,6 @@ fn make_places(alloc: Global, count: u16) -> Result<Vec<Option<Node>>, AllocErro
     Ok(places)
 }
 
-/// Puts a node into its place.
 fn put(places: &mut Vec<Option<Node>>, number: u16, node: Node)
     requires { number < length places.old.items }
     ensures { places.new.items ≡ slice_set places.old.items number (Some node) }
@@ -66,7 +62,6 @@ fn put(places: &mut Vec<Option<Node>>, number: u16, node: Node)
     places[usize::from(number)] = Some(node);
 }
 
-/// Makes the nodes of one more group, each in its place.
 fn make_group(
     alloc: Global,
     mesh: &Mesh,
@@ -94,7 +89,6 @@ fn make_group(
     Ok(())
 }
 
-/// The nodes of all groups, each in its place.
 fn make_groups(
     alloc: Global,
     mesh: &Mesh,
@@ -138,7 +132,7 @@ pub fn make_nodes(
     Ok(nodes)
 }
 
-/// So many links with nothing on them, each with room for so many flits and so many credits.
+/// `count` links with nothing on them, each with room for `room` flits and `room` credits.
 pub fn fresh_links(alloc: Global, count: u16, room: u16) -> Result<Vec<LinkState>, AllocError>
     ensures { IfOk result (λ v. v.items ≡ replicate count (empty_link room)) }
 {

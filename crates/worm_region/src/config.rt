@@ -11,8 +11,7 @@ pub type Name = ArrayString<16>;
 /// What a network is made from (Dally and Towles, chapters 5 and 13).
 #[derive(Debug, Drop)]
 pub struct Config {
-    /// How many nodes there are along each dimension, each 2 to 16, the lowest dimension first. Their product,
-    /// the number of nodes, is at most 256.
+    /// How many nodes there are along each dimension, each 2 to 16, the lowest dimension first: at most 256 in all.
     pub radices: ArrayVec<u8, 3>,
     /// How many flits each buffer holds, 1 to 16.
     pub depth: u8,
@@ -22,7 +21,6 @@ pub struct Config {
     pub channels: ArrayVec<u8, 4>,
 }
 
-/// The same names once more.
 pub(crate) fn copy_names(names: &ArrayVec<Name, 4>) -> ArrayVec<Name, 4>
     ensures { texts_of result.items ≡ texts_of names.now.items }
 {

@@ -40,15 +40,10 @@ use worm_wires::{Inboxes, Links};
 /// The nodes by number and the links by number, whatever they hold (Dally and Towles, chapters 5, 13 and 16).
 #[derive(Drop)]
 pub struct Fabric {
-    /// The mesh, and the links by number.
     pub(crate) links: Links,
-    /// The channels that classes own.
     pub(crate) classes: ClassChannels,
-    /// How many flits each buffer holds, 1 to 16.
     pub(crate) depth: u8,
-    /// The classes' names.
     pub(crate) names: ArrayVec<Name, 4>,
-    /// The nodes by number.
     pub(crate) nodes: Nodes,
     /// Which of the nodes are owned by whoever has the fabric. No code asks; what holds of a fabric does.
     pub(crate) own: Owner,
@@ -64,7 +59,6 @@ impl Model for Fabric {
 }
 
 impl Fabric {
-    /// The nodes and links of a new network.
     pub(crate) fn new(
         alloc: Global,
         mesh: Mesh,
@@ -93,14 +87,12 @@ impl Fabric {
         })
     }
 
-    /// Whether the mesh has this node.
     pub(crate) fn has_node(&self, node: u8) -> bool
         ensures { IsTrue result ↔ (node < node_count self.now.mesh) }
     {
         u16::from(node) < self.links.wiring().nodes()
     }
 
-    /// Whether the node has this port, the terminal or one with a neighbour, and the network this channel.
     pub(crate) fn has_place(&self, node: u8, port: u8, vc: u8) -> bool
         ensures { IsTrue result ↔ ((node < node_count self.now.mesh) ×
             ((port ≡ 2 * length self.now.mesh) ⊎ IsSome (neighbour_of self.now.mesh node port)) ×
@@ -119,7 +111,6 @@ impl Fabric {
         self.links.wiring().terminal()
     }
 
-    /// Moves the front of the link into a port to the buffer of its channel (Dally and Towles, chapter 13).
     pub(crate) fn take_flit(&mut self, node: u8, port: u8) -> bool
         requires node { node < length self.old.nodes }
         requires linked { IsSome (neighbour_of self.old.mesh node port) }
@@ -148,10 +139,7 @@ impl Fabric {
         self.nodes.router_mut(node).route(port, vc)
     }
 
-    /// Lets out the flit that is ready at this place, into the sink or onto the link of its port (Dally and Towles,
-    /// chapter 13). `NoMemory` where the sink cannot take it; idle where none is ready, or one for the terminal is not
-    /// at home. The router tells the terminal port, by which it tells what a flit costs, so that the compiler knows
-    /// that one for a link costs a credit.
+    /// The terminal port is the router's own: so the compiler knows that a flit for a link costs a credit.
     #[inline(always)]
     pub(crate) fn send(&mut self, node: u8, port: u8, vc: u8) -> Result<Moved, StepFault>
         requires place { IsNetPlace self.old node port vc }
@@ -179,7 +167,6 @@ impl Fabric {
         Ok(Moved::Done)
     }
 
-    /// Gives a credit that the input channel owes to the link into its port (Dally and Towles, chapter 13).
     #[inline(always)]
     pub(crate) fn give_credit(&mut self, node: u8, port: u8, vc: u8)
         requires place { IsNetPlace self.old node port vc }
@@ -193,7 +180,6 @@ impl Fabric {
         self.links.push_credit(node, port, vc);
     }
 
-    /// Takes the front credit of the link out of this port into its channel's count (Dally and Towles, chapter 13).
     pub(crate) fn take_credit(&mut self, node: u8, port: u8) -> bool
         requires node { node < length self.old.nodes }
         requires linked { IsSome (neighbour_of self.old.mesh node port) }
@@ -235,7 +221,6 @@ impl Fabric {
         self.classes.total()
     }
 
-    /// The router of this node, for a change.
     pub(crate) fn router_mut(&mut self, node: u8) -> &mut Router
         requires { node < length self.old.nodes }
         ensures* lends { sem 𝓛 (Lends the_row router_row self.entry result (with_router self.old node)) }
@@ -244,7 +229,6 @@ impl Fabric {
         self.nodes.router_mut(node)
     }
 
-    /// The source of this node, for a change.
     pub(crate) fn source_mut(&mut self, node: u8) -> &mut Source
         requires { node < length self.old.nodes }
         ensures* lends { sem 𝓛 (Lends the_row source_row self.entry result (with_source self.old node)) }
@@ -253,7 +237,6 @@ impl Fabric {
         self.nodes.source_mut(node)
     }
 
-    /// The links, with what is on them.
     pub(crate) fn wires(&self) -> &Links
         ensures { result.now ≡ record { mesh = self.now.mesh; states = self.now.links } }
     {

@@ -7,17 +7,16 @@ use worm_term::OfferFault;
 pub enum NetFault {
     /// There was no memory for the network.
     NoMemory,
-    /// A number of the configuration is out of its range, or the names are not as many as the classes. It is looked for
-    /// before memory is taken.
+    /// A number is out of its range, or not every class has its one name. It is looked for before memory is taken.
     BadConfig,
 }
 
 /// Why a step was not done, or a turn ended early.
 #[derive(Clone, Copy, Debug, PartialEq, Eq)]
 pub enum StepFault {
-    /// The step names a node, port, channel or class that the network has not.
+    /// The network has not the step's node, port, channel or class, or the port has not the link that the step needs.
     NoSuchPlace,
-    /// A source refused a packet or a mark; never for want of memory.
+    /// A source refused a packet or a mark, also for its lane's nodes or class; never for want of memory.
     Refused(OfferFault),
     /// There was no memory for an accepted or a delivered flit.
     NoMemory,

@@ -10,8 +10,7 @@ use std::alloc::{AllocError, Global};
 use worm_mesh::Mesh;
 use worm_node::{Node, make_nodes};
 
-/// The nodes of a new network of this configuration, each at its own number. A part of a network has such nodes in the
-/// places of those that it does not own.
+/// The nodes of a new network by number. A part has such nodes in the places of those that it does not own.
 pub fn fresh_nodes(alloc: Global, config: &Config) -> Result<Vec<Node>, AllocError>
     requires mesh { AreRadices config.now.radices.items }
     requires channels { AreChannels config.now.channels.items }

@@ -1,12 +1,10 @@
 //! The lists of a network, or of a worker's part of one, and what moves them: the steps, and the turn of a node, on a
 //! k-ary n-mesh with wormhole switching and credits (Dally and Towles, chapters 5, 13 and 16).
 //!
-//! One idea carries the crate: a region's lists stand for functions of places (`network_of`), and each step writes, at
-//! one node or at the two ends of one link, what the theory's step writes at one place of each function. `Fabric` has
-//! the lists and no invariant. `Region` has what a move needs of them, kept by each move, and tests whether a step's
-//! place is there; a whole network has one in which every node is owned, a worker's part one of its own nodes.
-//!
-//! That a whole network is sound is kept by the crate above. Nothing is said of time, nor that anything is delivered.
+//! A region's lists stand for functions of places (`network_of`). Each step writes, at one node or at the two ends of
+//! one link, what the theory's step writes at one place of each function. `Fabric` has the lists and no invariant.
+//! `Region` has the invariant that each move needs and keeps.
+//! The crate above keeps that a whole network is sound. Nothing is said of time, nor that anything is delivered.
 #![tactic(auto)]
 
 mod config;

@@ -1,5 +1,4 @@
-//! The nodes of a network by number, which of them are known to rest, so that a turn goes past them, and how many
-//! flits are under way, so that a drain ends without a look at each node.
+//! The nodes of a network by number, with what is known of their rest and of the flits under way.
 
 ghost use Rattle.std.specs.Prelude.{ℕ, ◌≡◌, ◌+◌, ◌<◌, IsTrue, Some, length, slice_set, if◌then◌else◌, IfSome};
 ghost use Rattle.std.specs.Borrow.{Lends, sem};
@@ -22,9 +21,8 @@ use worm_term::Source;
 /// The nodes by number.
 #[derive(Drop)]
 pub struct Nodes {
-    /// The nodes.
     list: Vec<Node>,
-    /// Whether the node of this number is known to rest.
+    /// Whether the node of this number is known to rest, so that a turn goes past it.
     resting: [bool; 256],
     /// How many flits their sources accepted and their sinks have not taken; `None` where that is not known.
     under_way: Option<u64>,
@@ -46,14 +44,12 @@ impl Model for Nodes {
         × IsUnderWay (accepted_in n.list.items) (taken_in n.list.items) n.under_way };
 }
 
-/// The count after a flit was taken.
 fn one_fewer(count: Option<u64>) -> Option<u64>
     ensures { (accepted taken : ℕ) → IsUnderWay accepted taken count → IsUnderWay accepted (taken + 1) result }
 {
     count?.checked_sub(1)
 }
 
-/// How many flits the node's source accepted of its classes, which are so many, where the number is in range.
 fn count_accepted(node: &Node, classes: u8) -> Option<u64>
     requires { HasClasses classes node.now }
     ensures { IfSome result (λ n. n ≡ accepted_by node.now) }
@@ -65,7 +61,6 @@ fn count_accepted(node: &Node, classes: u8) -> Option<u64>
     Some(accepted)
 }
 
-/// How many flits are under way at these nodes, whose sources have so many classes, where the numbers are in range.
 fn count_under_way(nodes: &[Node], classes: u8) -> Option<u64>
     requires { HaveClasses classes nodes.now }
     ensures { IsUnderWay (accepted_in nodes.now) (taken_in nodes.now) result }
@@ -167,8 +162,7 @@ impl Nodes {
         self.under_way
     }
 
-    /// Moves the next flit of the class from the node's source into its injection buffer, where there is one and that
-    /// has room.
+    /// Moves the source's next flit of the class into the injection buffer, where there is one and it has room.
     pub fn feed(&mut self, node: u8, class: u8, port: u8) -> bool
         requires node { node < length self.old }
         requires same { (nth_node self.old node).source.channels ≡ (nth_node self.old node).router.channels }

@@ -3,8 +3,7 @@
 ghost use Rattle.std.specs.Prelude.{◌≡◌};
 ghost use Rattle.worm_region.specs.Owned.{sole};
 
-/// A worker among several, who owns the nodes whose number leaves the worker's own when divided by the number of
-/// workers.
+/// A worker among several, who owns the nodes whose number modulo the number of workers is the worker's own.
 #[derive(Clone, Copy, Debug, PartialEq, Eq)]
 pub struct Owner {
     /// The worker's number, 0 to workers - 1.

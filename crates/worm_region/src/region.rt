@@ -1,4 +1,4 @@
-//! The lists of a network with what its moves need of them, and the moves: small steps, each of which keeps that.
+//! The moves of a network's lists: small steps, each of which keeps what the moves need.
 
 ghost use Rattle.std.specs.Prelude.{None, Some, ◌≡◌, ◌≤◌, ◌<◌, ◌*◌, Result, IsTrue, Ok, IsSome};
 ghost use Rattle.std.specs.Prelude.{sum, length, IfSome, IfOk, Err, ◌↔◌};
@@ -35,9 +35,8 @@ use worm_term::OfferFault;
 use worm_vcalloc::ChannelSet;
 use worm_wires::PortLinks;
 
-/// The nodes and links of a network, some nodes or all owned by whoever has it: what a move of a node needs holds of
-/// it, and each move keeps that. Of the nodes that are not owned it has others in their places, which whoever has it
-/// leaves alone; of a link that comes from one of them what was taken off its queue and is in no buffer.
+/// The nodes and links of a network, or of one worker's part, with the invariant that every step needs and keeps.
+/// Others stand for the nodes that are not owned; a link from one holds what is off its queue and in no buffer.
 #[derive(Drop)]
 pub struct Region {
     fabric: Fabric,
@@ -54,15 +53,12 @@ impl Model for Region {
     ghost invariant = { λ r. IsWorkable r.fabric };
 }
 
-/// The answer to a step whose place is there: `Done` where it was done, else `Idle`.
 fn moved(done: bool) -> Moved
     ensures { result ≡ moved_of done }
 {
     if done { Moved::Done } else { Moved::Idle }
 }
 
-/// What a source answered to a packet or a mark, as the answer to a step: `NoMemory` where it had none, and for each
-/// other reason `Refused` with it.
 fn accepted(answer: Result<u16, OfferFault>) -> Result<Moved, StepFault>
     ensures value { result ≡ accepted_of answer }
     ensures never_idle { result ≡ Ok Idle → ⊥ }
@@ -75,9 +71,7 @@ fn accepted(answer: Result<u16, OfferFault>) -> Result<Moved, StepFault>
 }
 
 impl Region {
-    /// The region of a new network, all of whose nodes are owned. `BadConfig` where a number of the configuration is
-    /// out of its range or not every class has its one name, else `NoMemory` where there is none for the nodes, their
-    /// buffers and the links.
+    /// The region of a new network, all of whose nodes are owned. [`NetFault`] tells when there is none.
     pub fn new(alloc: Global, config: &Config) -> Result<Region, NetFault>
         ensures fresh { IfOk result (λ r. IsFresh config.now.radices.items config.now.channels.items config.now.depth
             (texts_of config.now.classes.items) r) }
@@ -107,7 +101,6 @@ impl Region {
     pub fn recall(&self)
         ensures { IsWorkable self.now }
     {
-        // For the proof: it opens what holds of a region.
         let _fabric = &self.fabric;
     }
 
@@ -149,7 +142,6 @@ impl Region {
         self.fabric.terminal()
     }
 
-    /// One pass of the node's channel allocator, its grants written into the records.
     pub(crate) fn allocate(&mut self, node: u8)
         requires { node < node_count self.old.mesh }
         ensures after { self.new ≡ with_router self.old node (after_allocate (router_at self.old node)) }
@@ -158,7 +150,6 @@ impl Region {
         let _grants = self.fabric.router_mut(node).grant_waiting();
     }
 
-    /// One pass of the node's switch allocator: the channels that it grants.
     pub(crate) fn choose(&mut self, node: u8) -> ChannelSet
         requires { node < node_count self.old.mesh }
         ensures chooses { Chooses node result self.old self.new }
@@ -168,7 +159,6 @@ impl Region {
         self.fabric.router_mut(node).grant_ready().granted()
     }
 
-    /// The channels of the node with a flit that lack a route; no other has anything to route.
     pub(crate) fn unrouted(&self, node: u8) -> ChannelSet
         requires { node < node_count self.now.mesh }
         ensures routes { IsSetOf lacks_route (router_at self.now node) result }
@@ -178,7 +168,6 @@ impl Region {
         self.fabric.node(node).router.unrouted()
     }
 
-    /// The mesh ports of the node by which a credit comes back.
     pub(crate) fn credits_in(&self, node: u8) -> SmallSet
         ensures ports { Covers (NoCredit self.now node) (2 * length self.now.mesh) result }
         ensures linked { AreLinked self.now node result }
@@ -187,7 +176,6 @@ impl Region {
         self.fabric.wires().credits_in(node)
     }
 
-    /// The mesh ports of the node by which a flit comes in.
     pub(crate) fn flits_in(&self, node: u8) -> SmallSet
         ensures ports { Covers (NoFlit self.now node) (2 * length self.now.mesh) result }
         ensures linked { AreLinked self.now node result }
@@ -196,7 +184,6 @@ impl Region {
         self.fabric.wires().flits_in(node)
     }
 
-    /// The classes of which the node's source has a flit that was not fed.
     pub(crate) fn unfed(&self, node: u8) -> SmallSet
         requires { node < node_count self.now.mesh }
         ensures classes { Covers (NoFeed self.now node) (length self.now.channels) result }
@@ -214,8 +201,7 @@ impl Region {
         self.fabric.node(node).router.owing()
     }
 
-    /// Whether the node is at rest, so that its turn goes past all but what its source is asked. Where it is at rest
-    /// this may not be found.
+    /// Whether the node is at rest, so that its turn only asks its source. A node at rest may not be found to be.
     #[inline(always)]
     pub fn rests(&mut self, node: u8) -> bool
         requires { node < node_count self.old.mesh }
@@ -230,7 +216,6 @@ impl Region {
         self.fabric.is_resting(node)
     }
 
-    /// Counts the flits under way where their number is not known.
     pub(crate) fn count_under_way(&mut self)
         ensures { self.new ≡ self.old }
     {
@@ -238,7 +223,6 @@ impl Region {
         self.fabric.nodes.count_under_way(classes);
     }
 
-    /// An Offer: the node's source is asked to accept the packet.
     pub(crate) fn offer(&mut self, node: u8, packet: &Packet) -> Result<Moved, StepFault>
         ensures replies { Replies self.old (Event.Offer node packet.now.lane packet.now.words) result self.new }
         ensures never_idle { result ≡ Ok Idle → ⊥ }
@@ -251,7 +235,6 @@ impl Region {
         accepted(self.fabric.source_mut(node).offer(packet))
     }
 
-    /// A Close: the node's source is asked to accept the lane's mark.
     pub(crate) fn close(&mut self, node: u8, lane: Lane) -> Result<Moved, StepFault>
         ensures replies { Replies self.old (Event.CloseLane node lane) result self.new }
         ensures never_idle { result ≡ Ok Idle → ⊥ }
@@ -262,7 +245,6 @@ impl Region {
         accepted(self.fabric.source_mut(node).close(lane))
     }
 
-    /// A Feed: the next flit of the class goes from the node's source into its injection buffer. Whether it did.
     pub(crate) fn feed(&mut self, node: u8, class: u8) -> bool
         requires node { node < node_count self.old.mesh }
         requires class { class < length self.old.channels }
@@ -272,7 +254,6 @@ impl Region {
         self.fabric.nodes.feed(node, class, terminal)
     }
 
-    /// A Route: the opening flit at the front of the input channel's buffer finds its output port.
     pub(crate) fn route(&mut self, node: u8, port: u8, vc: u8) -> bool
         requires { IsThere (shape self.old) (Event.Route node port vc) }
         ensures { Replies self.old (Event.Route node port vc) (Ok (moved_of result)) self.new }
@@ -280,7 +261,6 @@ impl Region {
         self.fabric.route(node, port, vc)
     }
 
-    /// A Grant: the packet that waits at the input channel gets the output channel `out_vc` of its port.
     fn grant(&mut self, node: u8, port: u8, vc: u8, out_vc: u8) -> bool
         requires { IsThere (shape self.old) (Event.Grant node port vc out_vc) }
         ensures { Replies self.old (Event.Grant node port vc out_vc) (Ok (moved_of result)) self.new }
@@ -288,9 +268,8 @@ impl Region {
         self.fabric.router_mut(node).grant(port, vc, out_vc)
     }
 
-    /// A Send: the flit at the front of the input channel's buffer leaves. Idle where no flit is ready; `NoMemory`, and
-    /// nothing changed, where there is none for a delivered flit. What leaves over a link stays among the nodes that
-    /// are owned.
+    /// A Send within what is owned: the front flit of the channel's buffer leaves. `Idle` where none is ready, or one
+    /// for the terminal is not at home; `NoMemory` where there is none for a delivered flit, and nothing changed.
     #[inline(always)]
     pub fn send(&mut self, node: u8, port: u8, vc: u8) -> Result<Moved, StepFault>
         requires there { IsThere (shape self.old) (Event.Send node port vc) }
@@ -301,7 +280,6 @@ impl Region {
         self.fabric.send(node, port, vc)
     }
 
-    /// A Take: the front flit of the link into the port goes into its buffer.
     pub(crate) fn take_flit(&mut self, node: u8, port: u8) -> bool
         requires { IsSome (neighbour_of self.old.mesh node port) }
         ensures { Replies self.old (Event.Take node port) (Ok (moved_of result)) self.new }
@@ -309,7 +287,6 @@ impl Region {
         self.fabric.take_flit(node, port)
     }
 
-    /// A GiveCredit, where all nodes are owned: a credit that the input channel owes, if any, goes onto its link.
     fn give_credit(&mut self, node: u8, port: u8, vc: u8) -> bool
         requires there { IsThere (shape self.old) (Event.GiveCredit node port vc) }
         requires whole { self.old.own ≡ sole }
@@ -333,7 +310,6 @@ impl Region {
         self.fabric.give_credit(node, port, vc);
     }
 
-    /// A TakeCredit: the front credit of the link out of the port goes to its channel's count.
     pub(crate) fn take_credit(&mut self, node: u8, port: u8) -> bool
         requires { IsSome (neighbour_of self.old.mesh node port) }
         ensures { Replies self.old (Event.TakeCredit node port) (Ok (moved_of result)) self.new }
@@ -341,8 +317,6 @@ impl Region {
         self.fabric.take_credit(node, port)
     }
 
-    /// Whether the step's place is there: its node, and the port, the channels and the class that it names; of a Take,
-    /// a GiveCredit and a TakeCredit the link.
     #[tactic(auto, unfolding(crate::specs::Shape::net_shape), using(crate::proofs::LinkedPorts::port_there))]
     fn has(&self, step: &Step) -> bool
         ensures { IsTrue result ↔ IsThere (shape self.now) (event_of step.now) }
@@ -367,12 +341,8 @@ impl Region {
         }
     }
 
-    /// One step (Dally and Towles, chapters 13 and 16), where all nodes are owned. `Done` where it was enabled, `Idle`
-    /// where its place is there and it was not, or where it would let out into a sink what is not for its node.
-    /// `NoSuchPlace` where the network has not its node, port, channel or class, or its port has not the link that it
-    /// needs; `Refused` where a source refuses a packet or a mark, also for its lane's nodes or class; `NoMemory` where
-    /// it was enabled and there is none for an accepted or a delivered flit. With these, and with `Idle`, nothing
-    /// changed.
+    /// One step (Dally and Towles, chapters 13 and 16); [`StepFault`] tells when each fault comes. `Idle` also where
+    /// it would let out into a sink what is not for its node. Only with `Done` did anything change.
     pub fn step(&mut self, step: &Step) -> Result<Moved, StepFault>
         requires { self.old.own ≡ sole }
         ensures replies { Replies self.old (event_of step.now) result self.new }

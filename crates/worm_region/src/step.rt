@@ -2,9 +2,8 @@
 
 use worm_flit::{Lane, Packet};
 
-/// One event at one place of the network (Dally and Towles, chapters 13 and 16). Nodes, ports, channels and classes are
-/// numbered from 0; a port is `2d` towards lower digits of dimension `d`, `2d + 1` towards higher ones, and last the
-/// terminal.
+/// One event at one place of the network (Dally and Towles, chapters 13 and 16). Numbers start at 0. A port is `2d`
+/// towards lower digits of dimension `d`, `2d + 1` towards higher ones, and last the terminal.
 #[derive(Debug, Drop)]
 pub enum Step {
     /// The node's source accepts a packet.

@@ -29,10 +29,8 @@ pub fn tried(answer: Result<Moved, StepFault>) -> Result<(), StepFault>
     }
 }
 
-/// No node, of marks by number.
 const NOBODY: [bool; 256] = [false; 256];
 
-/// The nodes whose sources these entries ask, by number: an entry is for none of the others.
 fn sources_of(entries: &Due<'_>) -> [bool; 256]
     ensures { AreMarked entries.now result }
 {
@@ -44,7 +42,6 @@ fn sources_of(entries: &Due<'_>) -> [bool; 256]
 }
 
 impl Region {
-    /// Asks the node's source what an entry asks of it.
     fn ask(&mut self, node: u8, act: &Act) -> Result<Moved, StepFault>
         ensures { Replies self.old (ask node act.now) result self.new }
     {
@@ -54,9 +51,7 @@ impl Region {
         }
     }
 
-    /// Asks the node's source what these entries ask of it, up to the first fault: `Refused` where the source refuses
-    /// an entry, `NoMemory` where there is none for the flits of one. That entry changed nothing, those before it
-    /// stand.
+    /// Asks the source what these entries ask, up to the first `Refused` or `NoMemory`, whose entry changes nothing.
     pub fn ask_source(&mut self, node: u8, entries: &Due<'_>) -> Result<(), StepFault>
         ensures does { Does (AsksSourceBy Attempts entries.now node) self.old (result_err result) self.new }
         ensures at_node { ReachesAt node self.old self.new }
@@ -69,7 +64,6 @@ impl Region {
         Ok(())
     }
 
-    /// Takes a credit from each link out of the node, ports rising.
     fn take_credits(&mut self, node: u8)
         requires { node < node_count self.old.mesh }
         ensures { Does (TakesCreditsBy Attempts node) self.old None self.new }
@@ -82,7 +76,6 @@ impl Region {
         }
     }
 
-    /// Takes a flit from each link into the node, ports rising.
     fn take_flits(&mut self, node: u8)
         requires { node < node_count self.old.mesh }
         ensures { Does (TakesFlitsBy Attempts node) self.old None self.new }
@@ -95,7 +88,6 @@ impl Region {
         }
     }
 
-    /// Feeds a flit of each class, rising.
     fn feed_classes(&mut self, node: u8)
         requires { node < node_count self.old.mesh }
         ensures { Does (FeedsClassesBy Attempts node) self.old None self.new }
@@ -108,7 +100,6 @@ impl Region {
         }
     }
 
-    /// Routes each channel that lacks a route, by rising port, then channel.
     fn route_channels(&mut self, node: u8)
         requires { node < node_count self.old.mesh }
         ensures { Does (RoutesChannelsBy Attempts node) self.old None self.new }
@@ -121,7 +112,6 @@ impl Region {
         }
     }
 
-    /// Lets each of these channels, which the switch allocator granted, send, ports rising, up to the first fault.
     fn send_granted(&mut self, node: u8, granted: ChannelSet) -> Result<(), StepFault>
         requires granted { AreGrants granted }
         requires there { AreThere self.old node granted }
@@ -137,7 +127,6 @@ impl Region {
         Ok(())
     }
 
-    /// Gives a credit of the lowest channel that owes one to each link into the node, ports rising.
     fn give_credits(&mut self, node: u8)
         requires node { node < node_count self.old.mesh }
         requires whole { self.old.own ≡ sole }
@@ -151,8 +140,6 @@ impl Region {
         }
     }
 
-    /// Takes what comes in at the node, credits and then flits, feeds a flit of each class, and routes each channel
-    /// that lacks a route.
     fn come_in(&mut self, node: u8)
         requires { node < node_count self.old.mesh }
         ensures does { Does (ComesInBy Attempts node) self.old None self.new }
@@ -164,8 +151,7 @@ impl Region {
         self.route_channels(node);
     }
 
-    /// All that the node does in a turn before anything leaves it, once its source was asked: what comes in is taken,
-    /// fed and routed, and both allocators pass. The channels that may send are those granted.
+    /// What the node does in a turn between its source's entries and its sends: the channels granted, which may send.
     pub fn prepare(&mut self, node: u8) -> ChannelSet
         requires { node < node_count self.old.mesh }
         ensures prepares { Prepares node result self.old self.new }
@@ -180,7 +166,6 @@ impl Region {
         self.choose(node)
     }
 
-    /// What a node does in a turn once its source was asked.
     fn node_passes(&mut self, node: u8) -> Result<(), StepFault>
         requires node { node < node_count self.old.mesh }
         requires whole { self.old.own ≡ sole }
@@ -195,7 +180,6 @@ impl Region {
         Ok(())
     }
 
-    /// The turn of a node, with these entries for all nodes; one of them may be for its source.
     fn node_turn(&mut self, node: u8, entries: &Due<'_>, is_asked: bool) -> Result<(), StepFault>
         requires node { node < node_count self.old.mesh }
         requires asked { is_asked ≡ false → begun_at node entries.now ≡ [] }
@@ -208,7 +192,6 @@ impl Region {
         self.node_passes(node)
     }
 
-    /// The turns of all nodes with these entries, in rising number, where these are the nodes that they ask.
     fn turns_of(&mut self, entries: &Due<'_>, asked: &[bool; 256]) -> Result<(), StepFault>
         requires asked { AreMarked entries.now asked.now }
         requires whole { self.old.own ≡ sole }
@@ -220,14 +203,12 @@ impl Region {
         Ok(())
     }
 
-    /// The turns of all nodes with these entries, in rising number. After a fault what was done before it stands:
-    /// `Refused` where a source refuses an entry, `NoMemory` where there is none for an accepted or a delivered flit.
+    /// The turns of all nodes with these entries, in rising number. What came before `Refused` or `NoMemory` stands.
     pub fn all_turns(&mut self, entries: &Due<'_>) -> Result<(), StepFault>
         requires { self.old.own ≡ sole }
         ensures { Does (ForEach all_nodes (NodeTurnBy Attempts entries.now)) self.old (result_err result) self.new }
     {
-        // Few turns have an entry: for the others 256 marks are not made, and what is under way is counted, since a drain
-        // asks for it after each.
+        // Few turns have an entry. The others make no marks, and count what is under way, since a drain asks for it.
         if entries.is_empty() {
             self.count_under_way();
             return self.turns_of(entries, &NOBODY);

@@ -1,12 +1,5 @@
-//! A gate by which no worker runs ahead of those beside it.
-//!
-//! While the workers beside it stand still a worker's turns bring little: nothing comes in, and what goes out runs out
-//! of credits. So before each turn it waits until they have ended the turn before. With a turn's room two take two
-//! turns each by turns, and where a buffer has room for a flit or two that halves what a turn brings.
-//!
-//! Whoever waits soon lets other threads run, and then sleeps until the other gets on. It waits only so long for one
-//! that stands still, a third of a second, since that one may take no further turn; and where that was in vain it
-//! waits for it again only once it has got on. Nothing that is proved rests on this.
+//! A gate by which no worker runs ahead of those beside it: while they stand still nothing comes in, and credits run
+//! out. A lead of one turn would halve what a turn brings, where a buffer has room for a flit or two.
 
 use crate::gate::Gate;
 use std::array;
@@ -16,7 +9,6 @@ use std::sync::atomic::{AtomicU64, Ordering};
 use std::thread::yield_now;
 use std::time::Duration;
 
-/// How many workers there may be.
 const WORKERS: usize = 16;
 
 /// How often a worker looks at once whether one that stands still has got on: a microsecond or two.
@@ -28,32 +20,25 @@ const YIELDS: u32 = 64;
 /// After so many looks at one that stands still it waits no longer: 32 sleeps.
 const LOOKS: u32 = 96;
 
-/// How long a worker sleeps, in milliseconds, if nobody wakes it.
 const NAP_MILLIS: u64 = 10;
 
 /// How often it looks in all, also at one that gets on.
 const MOST_LOOKS: u32 = 1_000_000_000;
 
-/// No number of turns that a worker has ended.
 const NONE: u64 = u64::MAX;
 
-/// How far a worker is, and whom it waited for. It fills two cache lines, so that no two workers write one line, nor
-/// one of the pair that a processor reads together.
+/// Fills two cache lines: no two workers write one line, nor one of the pair that a processor reads together.
 #[derive(Drop)]
 struct Progress {
-    /// How many turns it has ended.
     ended: AtomicU64,
-    /// How many workers sleep until it has ended more.
     sleepers: AtomicU64,
-    /// How many turns the worker after it had ended when it last waited for that one in vain.
+    /// How many turns the worker after it had ended when last waited for in vain; then the same of the one before it.
     next_stood: AtomicU64,
-    /// The same of the worker before it.
     previous_stood: AtomicU64,
     _apart: [u64; 12],
 }
 
 impl Progress {
-    /// None yet.
     fn new() -> Progress {
         Progress {
             ended: AtomicU64::new(0),
@@ -64,12 +49,10 @@ impl Progress {
         }
     }
 
-    /// How many turns it has ended.
     fn ended(&self) -> u64 {
         self.ended.load(Ordering::SeqCst)
     }
 
-    /// It has ended so many turns.
     fn tell(&self, turns: u64) {
         self.ended.store(turns, Ordering::SeqCst);
         if self.sleepers.load(Ordering::SeqCst) > 0 {
@@ -77,7 +60,6 @@ impl Progress {
         }
     }
 
-    /// Sleeps until it has ended more turns than so many, or for a while.
     fn sleep<R: Wait>(&self, rt: &R, ended: u64) {
         self.sleepers.fetch_add(1, Ordering::SeqCst);
         self.ended.park_timeout(
@@ -88,7 +70,6 @@ impl Progress {
         self.sleepers.fetch_sub(1, Ordering::SeqCst);
     }
 
-    /// What a worker does that has looked so often and found it at this number of turns.
     fn pause<R: Wait>(&self, rt: &R, looks: u32, ended: u64) {
         if looks < QUICK_LOOKS {
             spin_loop();
@@ -99,7 +80,7 @@ impl Progress {
         }
     }
 
-    /// Waits until it has ended so many turns, or has stood still for long. Gives back how many it has ended then.
+    /// Gives up where it has stood still for `LOOKS` looks. Gives back how many turns it has ended then.
     fn wait<R: Wait>(&self, rt: &R, turns: u64) -> u64 {
         let mut ended = self.ended();
         let mut looks = 0u32;
@@ -115,7 +96,6 @@ impl Progress {
         ended
     }
 
-    /// The same, unless it still stands where it was last waited for in vain.
     fn wait_again<R: Wait>(&self, rt: &R, turns: u64, stood: &AtomicU64) {
         let ended = self.ended();
         if ended >= turns || ended == stood.load(Ordering::SeqCst) {
@@ -126,8 +106,9 @@ impl Progress {
     }
 }
 
-/// A gate of one run that stops nobody. Before its turn a worker waits there for a while until each of the two workers
-/// beside it, to whose nodes the links of the first dimension lead from its own, has ended the turn before.
+/// A gate of one run that stops nobody. Before its turn a worker waits until both workers beside it, to whose nodes
+/// the links of the first dimension lead, have ended the turn before. It waits at most a third of a second for one
+/// that stands still; after a wait in vain, only once that one got on. Nothing proved rests on this.
 #[derive(Drop)]
 pub struct Paced<'a, R> {
     rt: &'a R,
@@ -145,7 +126,6 @@ impl<'a, R: Wait> Paced<'a, R> {
         }
     }
 
-    /// Waits for the worker beside another, if there is one.
     fn wait_for(&self, beside: usize, turns: u64, stood: &AtomicU64) {
         if let Some(progress) = self.progress.get(beside) {
             progress.wait_again(self.rt, turns, stood);

@@ -41,9 +41,8 @@ pub enum RunFault {
     Workers(Net),
     /// There was no memory for the parts; the network as handed in.
     NoMemory(Net),
-    /// This worker's thread could not be started. The workers after it were, and have ended; their parts are gone.
+    /// The thread of this worker, counted from 0, did not start. Those after it did, and ended; their parts are gone.
     NotStarted {
-        /// The worker, counted from 0.
         worker: usize,
     },
 }

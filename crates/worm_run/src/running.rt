@@ -17,19 +17,14 @@ use std::thread::{PromisedHandle, Scope, Threads};
 use worm_core::{Net, Script};
 use worm_split::{Part, StopWhy, join, split};
 
-/// The room that a run needs, made before a worker starts.
 #[derive(Drop)]
 struct Rooms {
-    /// What each worker gives back.
     done: Vec<Worked>,
-    /// The stops.
     stops: Vec<Stop>,
-    /// How many turns each worker ended.
     ended: Vec<u64>,
 }
 
 impl Rooms {
-    /// Empty lists with room for so many workers.
     fn new(alloc: Global, workers: usize) -> Result<Rooms, AllocError>
         ensures { IfOk result (HasRooms workers) }
     {
@@ -41,20 +36,14 @@ impl Rooms {
     }
 }
 
-/// What all workers gave back, sorted out.
 #[derive(Drop)]
 struct Ran {
-    /// Their parts, by rising worker.
     parts: Vec<Part>,
-    /// Their stops.
     stops: Vec<Stop>,
-    /// How many turns each ended.
     ended: Vec<u64>,
 }
 
-/// Starts the last part's worker. `Err` names it where its thread could not be started.
-///
-/// This and `collect` are not inlined, so that no part lies on the stack while the workers of others are started.
+/// Not inlined, nor is `collect`: so no part lies on the stack while the workers of others are started.
 #[inline(never)]
 fn start<'s, E, R: Threads + Wait + Sync, G: Gate + Sync>(
     scope: &Scope<'s, E>,
@@ -91,7 +80,6 @@ fn start<'s, E, R: Threads + Wait + Sync, G: Gate + Sync>(
     }
 }
 
-/// Joins a worker, and puts what it gives back behind the others.
 #[inline(never)]
 fn collect<'s, R: Threads, G: Gate>(
     rt: &R,
@@ -110,8 +98,6 @@ fn collect<'s, R: Threads, G: Gate>(
     put(done, worked);
 }
 
-/// Starts the last part's worker, runs the parts before it, and then joins that worker. `Err` names a worker whose
-/// thread could not be started; those that were started end with the scope.
 fn run_parts<'s, E, R: Threads + Wait + Sync, G: Gate + Sync>(
     scope: &Scope<'s, E>,
     rt: &'s R,
@@ -140,7 +126,6 @@ fn run_parts<'s, E, R: Threads + Wait + Sync, G: Gate + Sync>(
     Ok(())
 }
 
-/// Puts an item where there is room for it.
 fn put<T: Drop>(list: &mut Vec<T>, item: T)
     requires { vec_len list.old < vec_capacity list.old }
     ensures items { list.new.items ≡ list.old.items ++ item ∷ [] }
@@ -153,7 +138,6 @@ fn put<T: Drop>(list: &mut Vec<T>, item: T)
     }
 }
 
-/// Puts a worker's stop, if it has one.
 fn put_stop(stops: &mut Vec<Stop>, worker: usize, turn: u64, stop: Option<StopWhy>)
     requires { vec_len stops.old < vec_capacity stops.old }
     ensures items { stops.new.items ≡ stops.old.items ++ stop_of worker turn stop }
@@ -165,7 +149,6 @@ fn put_stop(stops: &mut Vec<Stop>, worker: usize, turn: u64, stop: Option<StopWh
     }
 }
 
-/// Sorts out what the workers gave back.
 fn gather(done: Vec<Worked>, mut parts: Vec<Part>, mut stops: Vec<Stop>, mut ended: Vec<u64>) -> Ran
     requires parts { (parts.items ≡ []) × (vec_len done ≤ vec_capacity parts) }
     requires stops { (stops.items ≡ []) × (vec_len done ≤ vec_capacity stops) }
@@ -191,7 +174,6 @@ fn gather(done: Vec<Worked>, mut parts: Vec<Part>, mut stops: Vec<Stop>, mut end
     }
 }
 
-/// Runs the parts in a scope, and sorts out what came back.
 fn run_scoped<'s, E, R: Threads + Wait + Sync, G: Gate + Sync>(
     scope: &Scope<'s, E>,
     rt: &'s R,
@@ -214,7 +196,6 @@ fn run_scoped<'s, E, R: Threads + Wait + Sync, G: Gate + Sync>(
     Ok(gather(done, parts, stops, ended))
 }
 
-/// Runs each part by a worker of its own, up to so many turns.
 fn run_all<R: Threads + Wait + Sync, G: Gate + Sync>(
     rt: &R,
     script: &Script,
@@ -239,13 +220,9 @@ fn run_all<R: Threads + Wait + Sync, G: Gate + Sync>(
     )
 }
 
-/// Runs a network by so many workers, each on a thread of its own, worker w of W with the nodes whose number modulo W
-/// is w: their turns 0, 1, .. below the plan's, with the script's entries, each asked of the gate before. A worker
-/// that its gate stops, that finds no memory or whose source refuses an entry takes no further turn, and the others
-/// go on. An entry whose source is no node is never offered.
-///
-/// No worker begins a turn but where the gate states that it may answer true. So a gate is never passed over: where it
-/// never answers true to a worker at some turn, that worker takes none from that turn on.
+/// Runs a network by so many workers, each on a thread of its own; worker w of W has the nodes whose number modulo W
+/// is w. Each takes the turns below the plan's with the script's entries, up to its first stop; the others go on. An
+/// entry whose source is no node is never offered. No worker begins a turn but where the gate may answer true.
 ///
 /// Whatever the schedule, in the network that comes back the flits of a lane that were delivered, followed by those
 /// under way from the sink back, are those injected, in order, each once. That workers get on is not claimed.

@@ -51,8 +51,7 @@ impl<'a, G: Gate> Promise<Worked> for WorksAs<'a, G> {
         WorkedAs (G.may_stop p.gate.now) (G.may_pass p.gate.now) p.script.now p.turns p.worker p.part.value w };
 }
 
-/// The turns of one worker with its part, each asked of its gate before, up to the first stop. None is begun but where
-/// the gate may answer true.
+/// The turns of one worker with its part, up to the first stop. None is begun but where the gate may answer true.
 pub fn work<R: Wait, G: Gate>(
     rt: &R,
     mut part: Part,

@@ -1,5 +1,4 @@
-//! A network taken apart, and what is exchanged between it and a worker's own lists. Done at the split it gives the
-//! worker its part; done again at the join it puts the part back.
+//! A network taken apart. What a split exchanges between it and a worker's lists, the join exchanges back.
 
 ghost use Rattle.std.specs.Prelude.{◌≡◌, ◌<◌, length};
 ghost use Rattle.worm_region.specs.Owned.{owned_by};
@@ -16,15 +15,11 @@ use worm_mesh::LinkEnds;
 /// that a worker has, or on the links, is not looked at.
 #[derive(Drop)]
 pub struct TakenApart {
-    /// What the network was made from.
     pub(crate) config: Config,
     /// The two nodes of each link, by the link's number.
     pub(crate) ways: Vec<LinkEnds>,
-    /// The nodes by number.
     pub(crate) nodes: Vec<Node>,
-    /// The links by number.
     pub(crate) links: Vec<LinkState>,
-    /// Memory for the inboxes of its nodes.
     pub(crate) inboxes: Inboxes,
     /// Both ends of each link between two workers, by the link's number.
     pub(crate) lines: Vec<Line>,
@@ -40,7 +35,6 @@ impl Model for TakenApart {
     ghost invariant = { λ k. Fits (taken_apart k.config k.ways.items k.nodes.items k.links.items k.lines.items) };
 }
 
-/// Whether the worker owns the node.
 pub(crate) fn owns(own: Owner, node: u8) -> bool
     requires { 0 < own.workers }
     ensures { result ≡ owned_by own node }
@@ -48,7 +42,6 @@ pub(crate) fn owns(own: Owner, node: u8) -> bool
     u16::from(node) % own.workers == own.worker
 }
 
-/// Exchanges the two nodes where they are the worker's.
 fn swap_node(kept: &mut Node, node: &mut Node, own: bool)
     ensures { SwapsNode own kept.old node.old kept.new node.new }
 {
@@ -57,7 +50,6 @@ fn swap_node(kept: &mut Node, node: &mut Node, own: bool)
     }
 }
 
-/// Exchanges the nodes that the worker owns.
 fn swap_nodes(kept: &mut Vec<Node>, nodes: &mut Vec<Node>, own: Owner)
     requires workers { 0 < own.workers }
     requires length { length nodes.old.items ≡ length kept.old.items }
@@ -69,7 +61,7 @@ fn swap_nodes(kept: &mut Vec<Node>, nodes: &mut Vec<Node>, own: Owner)
     }
 }
 
-/// Exchanges the two links' flits where the worker owns the far end, and their credits where it owns the near one.
+/// Flits go with the link's far end, credits with its near one: each with the worker that takes them.
 fn swap_link(kept: &mut LinkState, link: &mut LinkState, near: bool, far: bool)
     ensures { SwapsLink near far kept.old link.old kept.new link.new }
 {
@@ -81,7 +73,6 @@ fn swap_link(kept: &mut LinkState, link: &mut LinkState, near: bool, far: bool)
     }
 }
 
-/// Exchanges what is on the links, flits and credits.
 fn swap_links(
     kept: &mut Vec<LinkState>,
     links: &mut Vec<LinkState>,
@@ -105,7 +96,6 @@ fn swap_links(
     }
 }
 
-/// Exchanges the worker's end of a link, if just one of the link's nodes is the worker's.
 fn swap_end(line: &mut Line, end: &mut End, near: bool, far: bool)
     ensures { SwapsEnd near far line.old end.old line.new end.new }
 {
@@ -116,7 +106,6 @@ fn swap_end(line: &mut Line, end: &mut End, near: bool, far: bool)
     }
 }
 
-/// Exchanges the worker's ends.
 fn swap_ends(lines: &mut Vec<Line>, ends: &mut Vec<End>, ways: &Vec<LinkEnds>, own: Owner)
     requires workers { 0 < own.workers }
     requires length { length ends.old.items ≡ length lines.old.items }
@@ -136,14 +125,12 @@ fn swap_ends(lines: &mut Vec<Line>, ends: &mut Vec<End>, ways: &Vec<LinkEnds>, o
 }
 
 impl TakenApart {
-    /// Tells that the lists fit one another.
     pub(crate) fn recall(&self)
         ensures { Fits self.now }
     {
         let _config = &self.config;
     }
 
-    /// Exchanges all that is the worker's.
     pub(crate) fn exchange(
         &mut self,
         nodes: &mut Vec<Node>,

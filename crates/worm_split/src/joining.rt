@@ -18,7 +18,6 @@ use worm_flit::Flit;
 use worm_links::{CreditRx, CreditTx, FlitRx, FlitTx, reunite, reunite_credits};
 use worm_mesh::LinkEnds;
 
-/// Puts the flit behind the link's, if there is room.
 fn put_behind(link: &mut LinkState, flit: Flit)
     ensures fits { length link.old.flits < link.old.room →
         link.new ≡ record link.old { flits = link.old.flits ++ flit ∷ [] } }
@@ -29,7 +28,6 @@ fn put_behind(link: &mut LinkState, flit: Flit)
     }
 }
 
-/// The same of a credit.
 fn put_credit_behind(link: &mut LinkState, vc: u8)
     ensures fits { length link.old.credits < link.old.room →
         link.new ≡ record link.old { credits = link.old.credits ++ vc ∷ [] } }
@@ -40,8 +38,7 @@ fn put_credit_behind(link: &mut LinkState, vc: u8)
     }
 }
 
-/// Puts what the queue still holds behind the link's flits. There is room for it, but that is known only of all links
-/// together, once all queues are empty; so it is asked.
+/// There is room, but that is known only of all links together, once all queues are empty; so it is asked.
 fn empty_flits<R: Wait>(rt: &R, tx: FlitTx, rx: FlitRx, link: &mut LinkState)
     requires { tx.queue ≡ rx.queue }
     ensures { FlitsEmptied tx.sent rx.taken link.old link.new }
@@ -52,7 +49,6 @@ fn empty_flits<R: Wait>(rt: &R, tx: FlitTx, rx: FlitRx, link: &mut LinkState)
     }
 }
 
-/// The same of credits.
 fn empty_credits<R: Wait>(rt: &R, tx: CreditTx, rx: CreditRx, link: &mut LinkState)
     requires { tx.queue ≡ rx.queue }
     ensures { CreditsEmptied tx.sent rx.taken link.old link.new }
@@ -63,7 +59,6 @@ fn empty_credits<R: Wait>(rt: &R, tx: CreditTx, rx: CreditRx, link: &mut LinkSta
     }
 }
 
-/// Puts what the line's queues still hold onto the link, if it has ends.
 fn empty_line<R: Wait>(rt: &R, line: Line, link: &mut LinkState)
     requires { AreOfOne line.out line.into }
     ensures { IsEmptied line.out line.into link.old link.new }
@@ -79,7 +74,6 @@ fn empty_line<R: Wait>(rt: &R, line: Line, link: &mut LinkState)
     empty_credits(rt, give, back, link);
 }
 
-/// The same, unless both of the link's nodes are of one worker.
 fn empty_between<R: Wait>(rt: &R, line: &mut Line, link: &mut LinkState, within: bool)
     requires { within ≡ false → AreOfOne line.old.out line.old.into }
     ensures between { within ≡ false → IsEmptied line.old.out line.old.into link.old link.new }
@@ -95,7 +89,6 @@ fn empty_between<R: Wait>(rt: &R, line: &mut Line, link: &mut LinkState, within:
     empty_line(rt, replace(line, none), link);
 }
 
-/// Whether both of the link's nodes are of one worker.
 fn is_within(way: LinkEnds, workers: usize) -> bool
     requires { 0 < workers }
     ensures { result ≡ (way.from % workers == way.to % workers) }
@@ -104,7 +97,6 @@ fn is_within(way: LinkEnds, workers: usize) -> bool
 }
 
 impl TakenApart {
-    /// Puts a part back: its nodes, what is on its links, and its ends.
     fn put_back(&mut self, region: Region, mut ends: Vec<End>)
         requires workers { 0 < region.own.workers }
         requires paired { ArePaired self.old region.nodes region.links ends.items }
@@ -120,7 +112,6 @@ impl TakenApart {
         self.exchange(&mut nodes, &mut links, &mut ends, own);
     }
 
-    /// Puts what all queues still hold onto their links.
     fn empty_lines<R: Wait>(&mut self, rt: &R, workers: usize)
         requires workers { 0 < workers }
         requires queues { (k : ℕ) → IsBetween workers self.old.ways k →
@@ -136,7 +127,6 @@ impl TakenApart {
     }
 }
 
-/// The network that the parts make but for what their queues still hold, taken apart.
 fn gather(mut parts: Vec<Part>) -> TakenApart
     requires { AreParts parts.items }
     ensures { IsGathered parts.items 0 result }
@@ -173,11 +163,6 @@ fn gather(mut parts: Vec<Part>) -> TakenApart
 
 /// Joins all parts of one split, in rising number of their workers: each node as its owner has it, each link as the
 /// owner of its far end has it, and then what its queue still held. It takes no memory.
-///
-/// ```text
-/// let parts = split(alloc, net, 4)?;
-/// let net = join(rt, parts);
-/// ```
 pub fn join<R: Wait>(rt: &R, parts: Vec<Part>) -> Net
     requires { AreParts parts.items }
     ensures joined { IsJoinOf parts.items result }

@@ -23,39 +23,26 @@ use worm_flit::ClassChannels;
 use worm_links::{LinkCfg, Opening, credit_line, link_after};
 use worm_mesh::{LinkEnds, Mesh};
 
-/// A worker's lists before it has anything.
+/// A worker's lists before it has anything: fresh nodes, empty links, no ends.
 #[derive(Drop)]
 pub struct Seat {
-    /// What the network was made from.
     pub(crate) config: Config,
-    /// A fresh node for each.
     pub(crate) nodes: Vec<Node>,
-    /// An empty link for each.
     pub(crate) links: Vec<LinkState>,
-    /// Memory for the inboxes of its nodes.
     pub(crate) inboxes: Inboxes,
-    /// No end of any.
     pub(crate) ends: Vec<End>,
-    /// The network that is split.
     pub(crate) opening: Snapshot<Net>,
-    /// Both ends of each link, as they were made.
     pub(crate) lines: Snapshot<Vec<Line>>,
 }
 
-/// What the parts need.
 #[derive(Drop)]
 pub(crate) struct Rooms {
-    /// The two nodes of each link.
     pub(crate) ways: Vec<LinkEnds>,
-    /// Both ends of each link between two workers.
     pub(crate) lines: Vec<Line>,
-    /// The lists of each worker.
     pub(crate) seats: Vec<Seat>,
-    /// No part yet, but room for all.
     pub(crate) parts: Vec<Part>,
 }
 
-/// The two nodes of each link.
 fn make_ways(alloc: Global, mesh: &Mesh) -> Result<Vec<LinkEnds>, AllocError>
     ensures { IfOk result (λ ways. AreWays mesh.now ways.items) }
 {
@@ -69,7 +56,6 @@ fn make_ways(alloc: Global, mesh: &Mesh) -> Result<Vec<LinkEnds>, AllocError>
     Ok(ways)
 }
 
-/// The class that owns each channel.
 fn owners_of(classes: &ClassChannels) -> [u8; 8]
     ensures { (v : ℕ) → v < sum classes.now → slice_get result v ≡ Some (owner_of classes.now v) }
 {
@@ -107,7 +93,6 @@ fn make_line<B: Opening>(
     })
 }
 
-/// The line of a link: its two ends where its nodes are of two workers, and no ends where they are of one.
 fn make_line_of(
     alloc: Global,
     net: &Net,
@@ -130,7 +115,6 @@ fn make_line_of(
     make_line::<Brand>(alloc, net, way, cfg)
 }
 
-/// The lines of all links.
 fn make_lines(
     alloc: Global,
     net: &Net,
@@ -164,11 +148,9 @@ fn make_lines(
     Ok(lines)
 }
 
-/// For how many ends more than it has a list of a worker has room: 128 bytes that stay empty, so that no two workers
-/// write one cache line.
+/// Room in each worker's list of ends for 128 bytes that stay empty, so that no two workers write one cache line.
 const APART: usize = 8;
 
-/// No ends.
 fn make_ends(alloc: Global, count: u16) -> Result<Vec<End>, AllocError>
     ensures { IfOk result (λ v. v.items ≡ replicate count Inner) }
 {
@@ -179,7 +161,6 @@ fn make_ends(alloc: Global, count: u16) -> Result<Vec<End>, AllocError>
     Ok(ends)
 }
 
-/// A worker's lists.
 fn make_seat(
     alloc: Global,
     net: &Net,
@@ -208,7 +189,6 @@ fn make_seat(
     })
 }
 
-/// The lists of each worker.
 fn make_seats(
     alloc: Global,
     net: &Net,
@@ -229,7 +209,6 @@ fn make_seats(
     Ok(seats)
 }
 
-/// All that the parts need.
 pub(crate) fn make_rooms(alloc: Global, net: &Net, workers: u16) -> Result<Rooms, AllocError>
     requires workers { 0 < workers }
     ensures { IfOk result (λ rooms. AreRooms net.now workers rooms) }

@@ -15,7 +15,6 @@ use std::alloc::Global;
 use std::snapshot::Snapshot;
 use worm_core::{Net, NetParts, NoMemory, Owner, Region};
 
-/// The part that has these lists.
 fn part_of(seat: Seat, own: Owner, kept: Option<TakenApart>) -> Part
     requires works { IsWorkable (seat_state seat own).net }
     requires part { IsPart (seat_state seat own) }
@@ -46,7 +45,6 @@ fn part_of(seat: Seat, own: Owner, kept: Option<TakenApart>) -> Part
     }
 }
 
-/// The parts of the network that is taken apart, for the workers in rising number.
 fn deal(
     mut whole: TakenApart,
     mut seats: Vec<Seat>,
@@ -82,8 +80,7 @@ fn deal(
     parts
 }
 
-/// Splits the network at its links among so many workers, 1 to 16: a part for each, in rising number. The nodes go to
-/// them in
+/// Splits the network at its links among 1 to 16 workers: a part for each, in rising number. The nodes go to them in
 /// turn, and a worker past the last node gets none. `Err` gives the network back as it was, where memory is refused.
 ///
 /// ```text

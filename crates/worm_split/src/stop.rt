@@ -17,7 +17,6 @@ pub enum StopWhy {
     Refused(OfferFault),
 }
 
-/// The stop that a turn's fault is.
 pub(crate) fn stopped_by(fault: StepFault) -> StopWhy
     requires { fault ≡ NoSuchPlace → ⊥ }
     ensures { fault_behind result ≡ Some fault }

@@ -31,8 +31,7 @@ use worm_flit::{Flit, SmallSet};
 use worm_vcalloc::ChannelSet;
 
 impl Part {
-    /// Whether a step in this dimension leads to another worker's node. It adds the same to each node's number, so it
-    /// does so from all nodes or from none.
+    /// A step adds the same to each node's number, so it leads away from all nodes or from none.
     fn leads_away(&self, dim: u8) -> bool
         requires { dim < length self.now.net.mesh }
         ensures { result ≡ false → stride_of self.now.net.mesh dim % self.now.net.own.workers ≡ 0 }
@@ -44,8 +43,7 @@ impl Part {
         u16::from(beyond) % self.region.own().workers != 0
     }
 
-    /// The mesh ports by which a link may lead to another worker's node. The links by the others stay within the part,
-    /// so their queues need not be asked.
+    /// The links by other ports stay within the part, so their queues need not be asked.
     fn shared_ports(&self) -> SmallSet
         ensures { AreShared self.now.net result }
     {
@@ -57,8 +55,6 @@ impl Part {
         shared
     }
 
-    /// Asks for the next credit of the link out of the port, where the link leaves the worker's nodes and no credit of
-    /// it waits.
     fn pull_credit(&mut self, node: u8, port: u8)
         requires node { node < node_count self.old.net.mesh }
         requires own { owned self.old.net node ≡ true }
@@ -82,8 +78,6 @@ impl Part {
         self.region.arrive_credit(node, port, vc);
     }
 
-    /// Asks for the next flit of the link into the port, where the link enters the worker's nodes and no flit of it
-    /// waits.
     fn pull_flit(&mut self, node: u8, port: u8)
         requires node { node < node_count self.old.net.mesh }
         requires own { owned self.old.net node ≡ true }
@@ -107,8 +101,6 @@ impl Part {
         self.region.arrive(node, port, flit);
     }
 
-    /// Asks for a credit of each link out of the node by one of these ports, rising. The links by the others lead to no
-    /// other worker's node.
     fn pull_credits(&mut self, node: u8, shared: SmallSet)
         requires node { node < node_count self.old.net.mesh }
         requires own { owned self.old.net node ≡ true }
@@ -122,8 +114,6 @@ impl Part {
         }
     }
 
-    /// Asks for a flit of each link into the node by one of these ports, rising. The links by the others come from no
-    /// other worker's node.
     fn pull_flits(&mut self, node: u8, shared: SmallSet)
         requires node { node < node_count self.old.net.mesh }
         requires own { owned self.old.net node ≡ true }
@@ -137,7 +127,6 @@ impl Part {
         }
     }
 
-    /// Asks the node's source what the entries ask of it, up to the first refusal.
     fn ask_source(&mut self, node: u8, entries: &Due<'_>) -> Result<(), StepFault>
         requires own { owned self.old.net node ≡ true }
         ensures same { IsSamePart self.old self.new }
@@ -149,7 +138,6 @@ impl Part {
         self.region.ask_source(node, entries)
     }
 
-    /// All that the node does before anything leaves it, as in a whole network: the channels that may send.
     fn prepare(&mut self, node: u8) -> ChannelSet
         requires node { node < node_count self.old.net.mesh }
         requires own { owned self.old.net node ≡ true }
@@ -161,7 +149,6 @@ impl Part {
         self.region.prepare(node)
     }
 
-    /// The ready flit leaves over the link of this number, which leads to another worker's node, if its push lands.
     fn send_across<R: Wait>(&mut self, rt: &R, node: u8, port: u8, vc: u8, out: u8, flit: Flit)
         requires own { owned self.old.net node ≡ true }
         requires there { IsThere (shape self.old.net) (Event.Send node port vc) }
@@ -177,7 +164,6 @@ impl Part {
         }
     }
 
-    /// What is ready to leave, if anything, stays within the part; it is sent as in a network.
     fn send_within(&mut self, node: u8, port: u8, vc: u8) -> Result<(), StepFault>
         requires own { owned self.old.net node ≡ true }
         requires there { IsThere (shape self.old.net) (Event.Send node port vc) }
@@ -189,7 +175,6 @@ impl Part {
         tried(self.region.send(node, port, vc))
     }
 
-    /// Whether the link out of the port leads to another worker's node.
     fn leaves(&self, node: u8, out: u8) -> bool
         ensures { IsTrue result ↔ LeavesBy self.now node out }
     {
@@ -200,8 +185,6 @@ impl Part {
         is_leaving(&self.ends[usize::from(links.out)])
     }
 
-    /// Lets a granted channel send, over a link to another worker or within the part. `NoMemory` where its flit is for
-    /// the sink and there is none for it there.
     fn send<R: Wait>(&mut self, rt: &R, node: u8, port: u8, vc: u8) -> Result<(), StepFault>
         requires own { owned self.old.net node ≡ true }
         requires there { IsThere (shape self.old.net) (Event.Send node port vc) }
@@ -218,7 +201,6 @@ impl Part {
         Ok(())
     }
 
-    /// Lets each of these channels, which the switch allocator granted, send, ports rising, up to the first fault.
     fn send_granted<R: Wait>(
         &mut self,
         rt: &R,
@@ -240,7 +222,6 @@ impl Part {
         Ok(())
     }
 
-    /// Gives the credit over the link into the port, which comes from another worker's node, if its push lands.
     fn give_across<R: Wait>(&mut self, rt: &R, node: u8, port: u8, vc: u8)
         requires own { owned self.old.net node ≡ true }
         requires node { node < node_count self.old.net.mesh }
@@ -257,7 +238,6 @@ impl Part {
         }
     }
 
-    /// Gives the credit over a link within the part.
     fn give_within(&mut self, node: u8, port: u8, vc: u8)
         requires own { owned self.old.net node ≡ true }
         requires channel { vc < sum self.old.net.channels }
@@ -269,7 +249,6 @@ impl Part {
         self.region.give_owed(node, port, vc);
     }
 
-    /// Gives a credit that a channel of the port owes to the link into it, whoever's node that comes from.
     fn give<R: Wait>(&mut self, rt: &R, node: u8, port: u8, vc: u8)
         requires own { owned self.old.net node ≡ true }
         requires node { node < node_count self.old.net.mesh }
@@ -288,7 +267,6 @@ impl Part {
         }
     }
 
-    /// Gives a credit of the lowest channel of each port that owes one, ports rising.
     fn give_credits<R: Wait>(&mut self, rt: &R, node: u8)
         requires node { node < node_count self.old.net.mesh }
         requires own { owned self.old.net node ≡ true }
@@ -303,8 +281,6 @@ impl Part {
         }
     }
 
-    /// Whether the node is at rest, so that the rest of its turn changes nothing. Where it is at rest this may not be
-    /// found.
     fn rests(&mut self, node: u8) -> bool
         requires { node < node_count self.old.net.mesh }
         ensures passes { IsTrue result → NodePasses node self.old None self.old }
@@ -314,7 +290,6 @@ impl Part {
         self.region.rests(node)
     }
 
-    /// What a node does in a turn once its source and its links were asked, up to the first fault.
     fn node_passes<R: Wait>(&mut self, rt: &R, node: u8) -> Result<(), StepFault>
         requires node { node < node_count self.old.net.mesh }
         requires own { owned self.old.net node ≡ true }
@@ -330,7 +305,6 @@ impl Part {
         Ok(())
     }
 
-    /// The turn of a node, with these entries for all nodes, up to the first fault.
     fn node_turn<R: Wait>(
         &mut self,
         rt: &R,
@@ -350,7 +324,6 @@ impl Part {
         self.node_passes(rt, node)
     }
 
-    /// The turns of the worker's nodes, in rising number, with these entries for all nodes, up to the first fault.
     fn node_turns<R: Wait>(&mut self, rt: &R, entries: &Due<'_>) -> Result<(), StepFault>
         ensures turn { Turn entries.now self.old (result_err result) self.new }
         ensures same { IsSamePart self.old self.new }
@@ -366,7 +339,6 @@ impl Part {
         Ok(())
     }
 
-    /// The turn of this number, with the script's entries for it, up to the first fault.
     fn take_turn<R: Wait>(&mut self, rt: &R, turn: u64, script: &Script) -> Result<(), StepFault>
         ensures exact { Turn (due turn script.now) self.old (result_err result) self.new }
         ensures sources { SourcesTake (due turn script.now) self.old (result_err result) self.new }
@@ -380,12 +352,8 @@ impl Part {
         self.node_turns(rt, &due)
     }
 
-    /// The turns of the worker's nodes, in rising number: the turn of this number, with the script's entries for it, up
-    /// to the first fault. What leaves by a link to another worker leaves by the link's queue, if its push lands; what
-    /// comes from another worker is what its queue gives. Each of its sources accepts in order what the script has for
-    /// it, each of its sinks gets one flit at most.
-    /// `Refused` where a source refuses an entry, `NoMemory` where there is none for an accepted or a delivered flit;
-    /// never `Gate`.
+    /// The turns of the worker's nodes, in rising number, with the script's entries for this turn, up to the first
+    /// fault. `Refused`: a source refuses an entry. `NoMemory`: there is none for an accepted or a delivered flit.
     pub fn turn<R: Wait>(&mut self, rt: &R, turn: u64, script: &Script) -> Result<(), StopWhy>
         ensures exact { Turn (due turn script.now) self.old (fault_told result) self.new }
         ensures sources { SourcesTake (due turn script.now) self.old (fault_told result) self.new }

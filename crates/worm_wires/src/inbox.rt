@@ -9,7 +9,6 @@ use std::alloc::{AllocError, Global};
 use std::marker::Model;
 use worm_flit::{Flit, Kind, Lane, SmallSet};
 
-/// A flit that stands where none is.
 const NO_FLIT: Flit = Flit {
     lane: Lane {
         src: 0,
@@ -23,8 +22,7 @@ const NO_FLIT: Flit = Flit {
     word: 0,
 };
 
-/// The mesh ports of a node at which something comes in. A turn looks at those of each node, so they stand apart from
-/// what comes in, beside those of other nodes.
+/// The mesh ports of a node at which something comes in. Those of all nodes stand together: a turn looks at each.
 #[derive(Clone, Copy)]
 pub struct Arrivals {
     /// Those at which a flit comes in.
@@ -34,7 +32,6 @@ pub struct Arrivals {
 }
 
 impl Arrivals {
-    /// Those of a node where nothing comes in.
     pub(crate) fn new() -> Arrivals
         ensures flits { result.flits ≡ 0 }
         ensures credits { result.credits ≡ 0 }
@@ -56,7 +53,6 @@ pub struct Fronts<T> {
 }
 
 impl<T: Copy> Fronts<T> {
-    /// Those of a node where none comes in.
     pub(crate) fn new(blank: T) -> Fronts<T>
         ensures { result.more ≡ 0 }
     {
@@ -66,8 +62,6 @@ impl<T: Copy> Fronts<T> {
         }
     }
 
-    /// The one that comes in next by the port, if one does: where it lies, since what takes it asks first whether
-    /// there is room for it.
     #[inline(always)]
     pub(crate) fn front_at(&self, here: &SmallSet, port: u8) -> Option<&T>
         requires { port < 6 }
@@ -80,7 +74,6 @@ impl<T: Copy> Fronts<T> {
         Some(&self.front[usize::from(port)])
     }
 
-    /// One comes in by the port, by which none did.
     #[inline(always)]
     pub(crate) fn put(&mut self, here: &mut SmallSet, port: u8, item: T)
         requires port { port < 6 }
@@ -91,7 +84,6 @@ impl<T: Copy> Fronts<T> {
         self.front[usize::from(port)] = item;
     }
 
-    /// Files which one comes in next by the port, if one does, where the link has a list of all that do.
     #[inline(always)]
     pub(crate) fn file(&mut self, here: &mut SmallSet, port: u8, front: Option<T>)
         requires { port < 6 }
@@ -116,7 +108,6 @@ pub struct NodeFronts {
 }
 
 impl NodeFronts {
-    /// Those of a node where nothing comes in.
     pub(crate) fn new() -> NodeFronts
         ensures flits { result.flits.more ≡ 0 }
         ensures credits { result.credits.more ≡ 0 }
@@ -146,7 +137,6 @@ impl NodeFronts {
         self.flits.more.put(port, true);
     }
 
-    /// The same of a credit that comes back by the port.
     pub(crate) fn spill_credits(&mut self, port: u8, link: &mut LinkState)
         requires port { port < 6 }
         requires way { IsWay true (has self.old.credits.more port) (slice_get self.old.credits.front port)
@@ -166,11 +156,9 @@ impl NodeFronts {
     }
 }
 
-/// Memory for the inboxes of 256 nodes, whatever stands in it. It goes with the lists of a network, so that links are
-/// made of those without taking any.
+/// Memory for the inboxes of 256 nodes. It goes with a network's lists, so that making links of those takes none.
 #[derive(Drop)]
 pub struct Inboxes {
-    /// By node number.
     pub(crate) list: Vec<NodeFronts>,
 }
 

@@ -1,12 +1,8 @@
-//! The links of a mesh, for one thread: what is on them, and which of them a node's ports have (Dally and Towles,
-//! chapters 5 and 13).
+//! The links of a mesh, for one thread: what is on them, by node and port (Dally and Towles, chapters 5 and 13).
 //!
-//! Two ideas carry it. A link is seen as two lists, its flits and the credits on their way back over it, wherever they
-//! stand. And what comes in next at a node stands in one place, its inbox, by port, so that a turn searches for
-//! nothing: behind it are the links' lists, which mostly are empty, and the number of each link out of a node. The two
-//! sets of ports of an inbox stand apart from what comes in by them, beside those of all nodes, so that a node that
-//! rests costs one look.
-//!
+//! A link is seen as two lists, its flits and the credits on their way back, wherever they stand. What comes in next
+//! at a node stands in its inbox, by port, so that a turn searches for nothing. The sets of ports of all inboxes
+//! stand side by side, so that a node that rests costs one look.
 //! Nothing is said of routers or of threads: the queues between two threads are in `worm_links`.
 #![tactic(auto)]
 

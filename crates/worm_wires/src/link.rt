@@ -10,8 +10,7 @@ use std::marker::Model;
 use std::mem::swap;
 use worm_flit::Flit;
 
-/// What is on a link from one node to the next: its flits, and the credits on their way back over it, front first
-/// (Dally and Towles, chapter 13).
+/// What is on a link from one node to the next, front first (Dally and Towles, chapter 13).
 ///
 /// ```text
 /// let mut link = LinkState::new(alloc, 2)?;
@@ -57,7 +56,7 @@ impl LinkState {
         self.flits.capacity().min(self.credits.capacity())
     }
 
-    /// The front flit, if there is one: where it lies, since what takes it asks first whether there is room for it.
+    /// The front flit, if there is one.
     pub fn front(&self) -> Option<&Flit>
         ensures value { option_copied result ≡ slice_get self.now.flits 0 }
         ensures variant { is_some result ≡ is_some (slice_get self.now.flits 0) }

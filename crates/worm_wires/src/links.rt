@@ -1,5 +1,4 @@
-//! The links of a mesh with what is on them. What comes in next at a node stands in its inbox, and the ports at which
-//! something does stand apart, so that a turn goes past all others, and past a node that rests by one look.
+//! The links of a mesh with what is on them. `_terminal` tells the proof that a mesh has at most three dimensions.
 
 ghost use Rattle.std.specs.Prelude.{◌≡◌, ◌<◌, ◌↔◌, ◌++◌, ◌∷◌, [], ℕ, IsSome, IsTrue};
 ghost use Rattle.std.specs.Prelude.{Option, Some, true, drop, is_some, length, option_copied, slice_get};
@@ -17,18 +16,14 @@ use std::marker::Model;
 use worm_flit::{Flit, SmallSet};
 use worm_mesh::Mesh;
 
-/// A mesh, and its links by number with what is on them. What comes in next stands in the inbox of the node that takes
-/// it; a link on which more than one flit is has them all in a list, and so it is with credits. The sets of ports of
-/// the inboxes are here by value, two bytes a node, and what comes in by them is on the heap.
+/// A mesh, and its links by number with what is on them. What comes in next stands in the inbox of the node that
+/// takes it. A link on which more than one flit is has them all in a list, and so with credits.
 #[derive(Drop)]
 pub struct Links {
-    /// The mesh, with the numbers of each node's links.
     wiring: Wiring,
-    /// The lists, by link number.
     lists: Vec<LinkState>,
-    /// The ports at which something comes in, by node number.
+    /// The ports at which something comes in, by node number: by value, two bytes a node.
     arrivals: [Arrivals; 256],
-    /// What comes in next, by node number.
     fronts: Vec<NodeFronts>,
 }
 
@@ -46,26 +41,22 @@ impl Model for Links {
     ghost invariant = { λ l. AreFiled l.wiring l.lists.items l.arrivals l.fronts.items };
 }
 
-/// The first flit of the link of this number, if it is there and has one.
 fn front_flit(lists: &[LinkState], number: Option<u16>) -> Option<Flit>
     ensures { result ≡ slice_get (flits_of lists.now number) 0 }
 {
     lists.get(usize::from(number?))?.front().copied()
 }
 
-/// The channel of the first credit of the link of this number, if it is there and has one.
 fn front_credit(lists: &[LinkState], number: Option<u16>) -> Option<u8>
     ensures { result ≡ slice_get (credits_of lists.now number) 0 }
 {
     lists.get(usize::from(number?))?.front_credit()
 }
 
-/// The inbox of a node, where each list has all that is on its link.
 fn inbox_of(wiring: &Wiring, lists: &[LinkState], node: u8) -> (Arrivals, NodeFronts)
     ensures inbox { IsInbox wiring.now lists.now node (inbox_by result.0 result.1) }
     ensures spilled { AreSpilled (inbox_by result.0 result.1) 8 }
 {
-    // For the proof: a mesh has at most three dimensions.
     let _terminal = wiring.terminal();
     let mut arrivals = Arrivals::new();
     let mut fronts = NodeFronts::new();
@@ -78,7 +69,6 @@ fn inbox_of(wiring: &Wiring, lists: &[LinkState], node: u8) -> (Arrivals, NodeFr
     (arrivals, fronts)
 }
 
-/// Moves a flit that is in the node's inbox alone into the list of the link into the port.
 fn spill_flits(
     wiring: &Wiring,
     arrivals: &[Arrivals; 256],
@@ -102,7 +92,6 @@ fn spill_flits(
     }
 }
 
-/// The same of a credit and the list of the link out of the port.
 fn spill_credits(
     wiring: &Wiring,
     arrivals: &[Arrivals; 256],
@@ -126,7 +115,6 @@ fn spill_credits(
     }
 }
 
-/// Moves all that is in the node's inbox alone into the lists of its links.
 fn spill_node(
     wiring: &Wiring,
     arrivals: &[Arrivals; 256],
@@ -203,7 +191,6 @@ impl Links {
         ensures nothing { ((p : ℕ) → flits_to self.now node p ≡ []) → ((o : ℕ) → credits_to self.now node o ≡ [])
             → result ≡ true }
     {
-        // For the proof: a mesh has at most three dimensions.
         let _terminal = self.wiring.terminal();
         let here = &self.arrivals[usize::from(node)];
         here.flits.is_empty() && here.credits.is_empty()
@@ -223,8 +210,7 @@ impl Links {
         self.arrivals[usize::from(node)].credits
     }
 
-    /// The flit that comes in next by this port of the node, if there is one: where it lies, since what takes it asks
-    /// first whether there is room for it.
+    /// The next flit that comes in by this port, by reference: what takes it asks first whether there is room for it.
     pub fn front_in(&self, node: u8, port: u8) -> Option<&Flit>
         requires { IsSome (neighbour_of self.now.mesh node port) }
         ensures value { option_copied result
@@ -292,8 +278,7 @@ impl Links {
         self.pop_listed(node, port);
     }
 
-    /// The same by the link's list, whether it has one or not. A link seldom has, so this is no part of the loops that
-    /// call it.
+    /// A link seldom has a list, so this is no part of the loops that call it.
     #[inline(never)]
     fn pop_listed(&mut self, node: u8, port: u8)
         requires { IsSome (neighbour_of self.old.mesh node port) }
@@ -334,8 +319,7 @@ impl Links {
         list.push(flit);
     }
 
-    /// Puts the flit at the end of the link into this port, on which there is none: what comes from another worker's
-    /// node is put down where it is looked for, without a look at where it comes from.
+    /// Puts a flit from another worker's node at the end of the link into this port, on which there is none.
     pub fn bring_flit(&mut self, node: u8, port: u8, flit: Flit)
         requires linked { IsSome (neighbour_of self.old.mesh node port) }
         requires empty { (state_at self.old (number_into self.old node port)).flits ≡ [] }
@@ -366,7 +350,6 @@ impl Links {
         self.pop_listed_credit(node, port);
     }
 
-    /// The same by the link's list of credits.
     #[inline(never)]
     fn pop_listed_credit(&mut self, node: u8, port: u8)
         requires { IsSome (neighbour_of self.old.mesh node port) }

@@ -1,4 +1,4 @@
-//! A mesh with the numbers of its links kept by node and port, so that no step searches for a link.
+//! A mesh with its links' numbers by node and port. `_dims` and `_nodes` tell the proof that radices are in range.
 
 ghost use Rattle.std.specs.Prelude.{◌≡◌, ◌<◌, ◌≤◌, ◌*◌, ◌↔◌, ℕ, IfSome, IsSome, Some, length};
 ghost use Rattle.worm_mesh.specs.Address.{AreRadices, neighbour_of, node_count, opposite_of, stride_of};
@@ -32,13 +32,11 @@ pub struct NodeLinks {
     pub outs: [u16; 6],
 }
 
-/// A mesh and the links of each of its nodes. It is small, since networks and parts are moved about by value.
+/// A mesh and the links of each node, so that no step searches. It is small, since networks are moved about by value.
 #[derive(Drop)]
 pub struct Wiring {
     mesh: Mesh,
-    /// How many nodes it has.
     count: u16,
-    /// The terminal port of each node.
     terminal: u8,
     /// What a step by each mesh port adds to a node's number, modulo 256.
     steps: [u8; 6],
@@ -58,7 +56,6 @@ impl Model for Wiring {
     ghost invariant = { λ w. IsWired w.mesh w.count w.terminal w.steps w.nodes };
 }
 
-/// The number that is kept of the link out of this port.
 fn number_out(mesh: &Mesh, node: u8, port: u8) -> u16
     requires { AreRadices mesh.now }
     ensures { result ≡ kept_number (out_link mesh.now node port) }
@@ -69,7 +66,6 @@ fn number_out(mesh: &Mesh, node: u8, port: u8) -> u16
     }
 }
 
-/// The links of a node; none of a node that is not there.
 fn links_of(mesh: &Mesh, node: u8) -> NodeLinks
     requires { AreRadices mesh.now }
     ensures { AreLinksOf mesh.now node result }
@@ -81,12 +77,10 @@ fn links_of(mesh: &Mesh, node: u8) -> NodeLinks
     NodeLinks { outs }
 }
 
-/// What one step in this dimension adds to a node's number: the number of the node one step from node 0.
 fn stride(mesh: &Mesh, dim: u8) -> u8
     requires { dim < length mesh.now }
     ensures { result ≡ stride_of mesh.now dim }
 {
-    // For the proof: a mesh has radices within their limits.
     let _dims = mesh.dims();
     match mesh.neighbour(0, 2 * dim + 1) {
         Some(node) => node,
@@ -94,7 +88,6 @@ fn stride(mesh: &Mesh, dim: u8) -> u8
     }
 }
 
-/// What a step by each mesh port adds, modulo 256: a step down is one up of 256 less.
 fn steps(mesh: &Mesh) -> [u8; 6]
     ensures { AreSteps mesh.now result }
 {
@@ -152,46 +145,38 @@ impl Wiring {
         self.terminal
     }
 
-    /// The number that is kept of the link out of this port.
     fn kept(&self, node: u8, port: u8) -> u16
         requires { port < 6 }
         ensures value { result ≡ kept_number (out_link self.now node port) }
         ensures mesh { AreRadices self.now }
     {
-        // For the proof: a mesh has radices within their limits.
         let _nodes = self.mesh.nodes();
         self.nodes[usize::from(node)].outs[usize::from(port)]
     }
 
-    /// The node beyond a port that has a neighbour.
     pub(crate) fn beyond(&self, node: u8, port: u8) -> u8
         requires { IsSome (neighbour_of self.now node port) }
         ensures { Some result ≡ neighbour_of self.now node port }
     {
-        // For the proof: a mesh has radices within their limits.
         let _nodes = self.mesh.nodes();
         node.wrapping_add(self.steps[usize::from(port)])
     }
 
-    /// The port by which the node beyond a port that has a neighbour is entered.
     pub(crate) fn entered(&self, node: u8, port: u8) -> u8
         requires { IsSome (neighbour_of self.now node port) }
         ensures value { result ≡ opposite_of port }
         ensures mesh_port { result < 6 }
     {
-        // For the proof: a mesh has radices within their limits.
         let _nodes = self.mesh.nodes();
         let _there = self.beyond(node, port);
         self.mesh.opposite(port)
     }
 
-    /// The links of a port that has a neighbour, where this is the number of the one out of it.
     fn links_by(&self, node: u8, port: u8, out: u16) -> PortLinks
         requires neighbour { IsSome (neighbour_of self.now node port) }
         requires out { out ≡ kept_number (out_link self.now node port) }
         ensures { Some result ≡ port_links self.now node port }
     {
-        // For the proof: a mesh has radices within their limits.
         let _nodes = self.mesh.nodes();
         let beyond = self.beyond(node, port);
         let entered = self.entered(node, port);
@@ -217,7 +202,6 @@ impl Wiring {
             × (links.into < link_count self.now)) }
         ensures mesh_ports { IfSome result (λ links. (port < 6) × (links.entered < 6)) }
     {
-        // For the proof: a mesh has radices within their limits.
         let _nodes = self.mesh.nodes();
         if port >= 6 {
             return None;
@@ -243,7 +227,6 @@ impl Wiring {
         ensures back { result.into < link_count self.now }
         ensures mesh_port { port < 6 }
     {
-        // For the proof: a mesh has radices within their limits.
         let _nodes = self.mesh.nodes();
         let out = self.kept(node, port);
         self.links_by(node, port, out)

@@ -10,7 +10,6 @@ use arrayvec::ArrayVec;
 use worm_flit::ClassChannels;
 use worm_mesh::Mesh;
 
-/// The radices of the mesh.
 pub(crate) fn radices_of(mesh: &Mesh) -> ArrayVec<u8, 3>
     ensures { result.items ≡ mesh.now }
 {
@@ -21,7 +20,6 @@ pub(crate) fn radices_of(mesh: &Mesh) -> ArrayVec<u8, 3>
     radices
 }
 
-/// How many channels each class owns.
 pub(crate) fn counts_of(classes: &ClassChannels) -> ArrayVec<u8, 4>
     ensures { result.items ≡ classes.now }
 {

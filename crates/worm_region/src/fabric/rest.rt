@@ -12,7 +12,6 @@ ghost use Rattle.worm_region.specs.Resting.{IsResting, nth_node};
 use super::Fabric;
 
 impl Fabric {
-    /// Whether the node's source has no flit for which there is room.
     fn feeds_nothing(&self, node: u8) -> bool
         requires sound { IsWorkable self.now }
         requires node { node < node_count self.now.mesh }
@@ -30,8 +29,7 @@ impl Fabric {
         true
     }
 
-    /// Whether the node is known to rest, or found to, which is kept until the node changes. Where it rests
-    /// this may not be found.
+    /// What is found is kept until the node changes. A node that rests may not be found to.
     pub(crate) fn is_resting(&mut self, node: u8) -> bool
         requires sound { IsWorkable self.old }
         requires node { node < node_count self.old.mesh }

@@ -1,5 +1,4 @@
-//! What comes into a part of a network and goes out of it, over the links that it shares with other workers
-//! (Dally and Towles, chapter 13).
+//! What enters and leaves a part over links shared with other workers (Dally and Towles, chapter 13).
 
 ghost use Rattle.std.specs.Prelude.{◌≡◌, ◌<◌, ◌↔◌, [], false, IfSome, IsSome, Some, sum};
 ghost use Rattle.worm_theory.specs.Steps.{IsThere, Step as Event};
@@ -23,8 +22,7 @@ impl Region {
         self.fabric.node(node).router.ready(port, vc)
     }
 
-    /// The ready flit left the node by the output port `out`, over a link to another worker's node: a Send but for the
-    /// link.
+    /// The ready flit left by the output port `out` for another worker's node: a Send but for the link.
     pub fn sent(&mut self, node: u8, port: u8, vc: u8, out: u8, flit: Flit)
         requires there { IsThere (shape self.old) (Event.Send node port vc) }
         requires ready { leaving (router_at self.old node) port vc ≡ Some (out, flit) }
@@ -34,8 +32,7 @@ impl Region {
         self.fabric.router_mut(node).sent(port, vc);
     }
 
-    /// The input channel owes one credit less, which goes back to another worker's node: a GiveCredit but for the
-    /// credit's list.
+    /// The input channel owes one credit less, which goes to another worker's node: a GiveCredit but for the link.
     pub fn gave(&mut self, node: u8, port: u8, vc: u8)
         requires there { IsThere (shape self.old) (Event.GiveCredit node port vc) }
         requires owed { 0 < (input_at (router_at self.old node) port vc).owed }
@@ -72,8 +69,7 @@ impl Region {
         self.fabric.links.bring_flit(node, port, flit);
     }
 
-    /// The credit of the channel, which another worker's node gave, comes back over the link out of this port, over
-    /// which none does.
+    /// A credit of the channel, given by another worker's node, comes back by this port, by which none does.
     pub fn arrive_credit(&mut self, node: u8, port: u8, vc: u8)
         requires crosses { EndsElsewhere (shape self.old) (owned self.old) node port }
         requires empty { (link_at self.old (link_out self.old node port)).credits ≡ [] }

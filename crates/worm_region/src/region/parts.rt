@@ -14,8 +14,7 @@ use worm_mesh::Mesh;
 use worm_wires::Links;
 
 impl Region {
-    /// The region of these lists, of which the worker owns its nodes: each node at its own number, others in the
-    /// places of those that are not owned, each link with its room. It takes no memory.
+    /// The region of these lists, of which the worker owns its nodes. It takes no memory.
     pub fn from_parts(parts: NetParts, own: Owner) -> Region
         requires { IsWorkable (part_state parts own) }
         ensures { result ≡ part_state parts own }
