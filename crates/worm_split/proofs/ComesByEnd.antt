@@ -166,7 +166,7 @@ credit_put {p} {x} {o} {c} {links} {n} {new} hand net came =
         exact = sym (ap (λ (m : NetState). with_end p x o
             (Leaving hand.tx (record hand.line { taken = hand.line.taken ++ c ∷ [] })) m) exact_net ∙ to);
       },
-      record { config = config; opening = refl; lines = refl },
+      record { config = config; opening = refl; pairs = refl },
     )
 
 pub flit_put : {p : PartState} {x o : ℕ} {f : Flit} {links : PortLinks} {n : ℕ} {new : End}
@@ -201,5 +201,5 @@ flit_put {p} {x} {o} {f} {links} {n} {new} hand net came =
         exact = sym (ap (λ (m : NetState). with_end p y q
             (Entering (record hand.rx { taken = hand.rx.taken ++ f ∷ [] }) hand.line) m) exact_net ∙ to);
       },
-      record { config = config; opening = refl; lines = refl },
+      record { config = config; opening = refl; pairs = refl },
     )

@@ -14,33 +14,33 @@ use Rattle.worm_node.specs.declared.node.Node.{Node}
 use Rattle.worm_region.specs.declared.owner.Owner.{Owner}
 use Rattle.worm_split.specs.declared.ends.End.{End}
 use Rattle.worm_split.specs.declared.ends.End.TheVariants.{Inner}
-use Rattle.worm_split.specs.declared.ends.Line.{Line}
+use Rattle.worm_split.specs.declared.ends.EndPair.{EndPair}
 use Rattle.worm_split.specs.declared.memory.Seat.{Seat}
 use Rattle.worm_split.specs.Apart.{Apart, IsExchanged}
-use Rattle.worm_split.specs.Ends.{end_at, end_made, line_at}
+use Rattle.worm_split.specs.Ends.{end_at, end_made, pair_at}
 use Rattle.worm_split.specs.Exchange.{far_of, near_of, way_at}
 use Rattle.worm_split.specs.PartState.{HasConfigOf}
-use Rattle.worm_split.specs.Splits.{AreLinesMade, IsSeat}
+use Rattle.worm_split.specs.Splits.{ArePairsMade, IsSeat}
 use Rattle.worm_split.proofs.Exchanged.{config_then}
 use Rattle.worm_split.proofs.Gathered.{not_same}
 use Rattle.worm_split.proofs.Gathering.{either_way}
 use Rattle.worm_split.proofs.Swapped.{ends_now, link_in, links_now, nodes_now}
 
-pub record IsDealt (O : NetState) (W : ℕ) (lines : List Line) (from : ℕ) (kept : Apart) : Type 0 where
+pub record IsDealt (O : NetState) (W : ℕ) (pairs : List EndPair) (from : ℕ) (kept : Apart) : Type 0 where
   pub config : HasConfigOf O kept.net
-  pub made : AreLinesMade O W kept.ways lines
+  pub made : ArePairsMade O W kept.ways pairs
   pub nodes : (x : ℕ) → from ≤ x % W → (n : Node) → slice_index_or kept.net.nodes x n ≡ slice_index_or O.nodes x n
   pub flits : (k : ℕ) → from ≤ (way_at kept.ways k).to % W
       → (link_in kept.net.links k).flits ≡ (link_at O k).flits
   pub credits : (k : ℕ) → from ≤ (way_at kept.ways k).from % W
       → (link_in kept.net.links k).credits ≡ (link_at O k).credits
   pub outs : (k : ℕ) → from ≤ (way_at kept.ways k).from % W
-      → (line_at kept.lines k).out ≡ (line_at lines k).out
+      → (pair_at kept.pairs k).out ≡ (pair_at pairs k).out
   pub intos : (k : ℕ) → from ≤ (way_at kept.ways k).to % W
-      → (line_at kept.lines k).into ≡ (line_at lines k).into
+      → (pair_at kept.pairs k).into ≡ (pair_at pairs k).into
 
-module _ (O : NetState) (W w : ℕ) (lines : List Line) (kept new : Apart) (dealt : IsDealt O W lines w kept)
-    (seat : Seat) (is : IsSeat O lines seat) (new_nodes : List Node) (new_links : List LinkView) (new_ends : List End)
+module _ (O : NetState) (W w : ℕ) (pairs : List EndPair) (kept new : Apart) (dealt : IsDealt O W pairs w kept)
+    (seat : Seat) (is : IsSeat O pairs seat) (new_nodes : List Node) (new_links : List LinkView) (new_ends : List End)
     (did : IsExchanged (record { worker = w; workers = W }) kept new seat.nodes.items new_nodes seat.links.items
     new_links seat.ends.items new_ends) where
   abbrev pub own : Owner
@@ -78,7 +78,7 @@ module _ (O : NetState) (W w : ℕ) (lines : List Line) (kept new : Apart) (deal
   ]
 
   -- what is left for the workers that come
-  pub dealt_on : IsDealt O W lines (w + 1) new
+  pub dealt_on : IsDealt O W pairs (w + 1) new
   dealt_on = record {
     config = config_then O kept.net new.net dealt.config did.config;
     made = rw did.ways dealt.made;
@@ -96,12 +96,12 @@ module _ (O : NetState) (W w : ℕ) (lines : List Line) (kept new : Apart) (deal
         ∙ (rw other refl ∙ dealt.credits k (omega arith)));
     outs = rw did.ways (λ k from.
         let other = later (way_at kept.ways k).from from in
-        (ends_now own kept.ways kept.lines seat.ends.items new.lines new_ends did.ends k).out
+        (ends_now own kept.ways kept.pairs seat.ends.items new.pairs new_ends did.ends k).out
         ∙ (rw other refl ∙ dealt.outs k (omega arith)));
     intos = rw did.ways (λ k from.
         let other = later (way_at kept.ways k).to from in
-        (ends_now own kept.ways kept.lines seat.ends.items new.lines new_ends did.ends k).into
-        ∙ (rw other (either_way (near_of own kept.ways k) (line_at kept.lines k).into)
+        (ends_now own kept.ways kept.pairs seat.ends.items new.pairs new_ends did.ends k).into
+        ∙ (rw other (either_way (near_of own kept.ways k) (pair_at kept.pairs k).into)
         ∙ dealt.intos k (omega arith)));
   }
 
@@ -137,14 +137,14 @@ module _ (O : NetState) (W w : ℕ) (lines : List Line) (kept new : Apart) (deal
       ∙ credits_by k (near_of own kept.ways k) refl
 
   ends_by : (k : ℕ) (near far : Bool) → near_of own kept.ways k ≡ near → far_of own kept.ways k ≡ far
-      → cond near (cond far (end_at seat.ends.items k) (line_at kept.lines k).out) (cond far
-      (line_at kept.lines k).into (end_at seat.ends.items k)) ≡ end_made near far (line_at lines k)
+      → cond near (cond far (end_at seat.ends.items k) (pair_at kept.pairs k).out) (cond far
+      (pair_at kept.pairs k).into (end_at seat.ends.items k)) ≡ end_made near far (pair_at pairs k)
   ends_by k true true e f = empty_end k
   ends_by k true false e f = dealt.outs k (mine (way_at kept.ways k).from e)
   ends_by k false true e f = dealt.intos k (mine (way_at kept.ways k).to f)
   ends_by k false false e f = empty_end k
 
   pub ends_own : (k : ℕ) → end_at new_ends k ≡ end_made (near_of own kept.ways k)
-      (far_of own kept.ways k) (line_at lines k)
-  ends_own k = (ends_now own kept.ways kept.lines seat.ends.items new.lines new_ends did.ends k).own_end
+      (far_of own kept.ways k) (pair_at pairs k)
+  ends_own k = (ends_now own kept.ways kept.pairs seat.ends.items new.pairs new_ends did.ends k).own_end
       ∙ ends_by k (near_of own kept.ways k) (far_of own kept.ways k) refl refl

@@ -10,7 +10,7 @@ use Rattle.worm_region.specs.declared.owner.Owner.{Owner}
 use Rattle.worm_wires.specs.Links.{LinkView}
 use Rattle.worm_mesh.specs.declared.mesh.LinkEnds.{LinkEnds}
 use Rattle.worm_split.specs.declared.ends.End.{End}
-use Rattle.worm_split.specs.declared.ends.Line.{Line}
+use Rattle.worm_split.specs.declared.ends.EndPair.{EndPair}
 use Rattle.worm_split.specs.Apart.{Apart, ArePaired, Fits, IsExchanged, with_lists}
 use Rattle.worm_split.specs.Exchange.{EndsSwapped, LinksSwapped, NodesSwapped}
 use Rattle.worm_split.specs.PartState.{HasConfigOf}
@@ -97,24 +97,24 @@ module _ (own : Owner) (s : NetState) (ways : List LinkEnds) (nodes us vs : List
 
 -- What is exchanged fits as before.
 pub exchanged : (own : Owner) (old kept : Apart) → old ≡ kept → (nodes us vs : List Node) (links ls ms : List LinkView)
-    (ends new_ends : List End) (lines : List Line) → Fits old → ArePaired kept nodes links ends
+    (ends new_ends : List End) (pairs : List EndPair) → Fits old → ArePaired kept nodes links ends
     → NodesSwapped own (length old.net.nodes) old.net.nodes nodes us vs
     → LinksSwapped own old.ways (length old.net.links) old.net.links links ls ms
-    → EndsSwapped own old.ways (length old.lines) old.lines ends lines new_ends
-    → IsExchanged own kept (record { net = with_lists old.net us ls; ways = old.ways; lines = lines }) nodes vs links ms
+    → EndsSwapped own old.ways (length old.pairs) old.pairs ends pairs new_ends
+    → IsExchanged own kept (record { net = with_lists old.net us ls; ways = old.ways; pairs = pairs }) nodes vs links ms
     ends new_ends
-exchanged own old kept is nodes us vs links ls ms ends new_ends lines fits paired nodes_swapped links_swapped
+exchanged own old kept is nodes us vs links ls ms ends new_ends pairs fits paired nodes_swapped links_swapped
     ends_swapped =
     let other = subst (λ (k : Apart). IsFramed (with_lists k.net nodes links)) (sym is) paired.framed in
     let framed = both_framed own old.net old.ways nodes us vs links ls ms fits.framed other nodes_swapped links_swapped
     in
-    subst (λ (k : Apart). IsExchanged own k (record { net = with_lists old.net us ls; ways = old.ways; lines = lines })
+    subst (λ (k : Apart). IsExchanged own k (record { net = with_lists old.net us ls; ways = old.ways; pairs = pairs })
     nodes vs links ms ends new_ends) is (record {
       fits = record {
         framed = framed.0;
         all_owned = fits.all_owned;
         ways = fits.ways;
-        all_lines = ends_swapped.same_length ∙ fits.all_lines;
+        all_pairs = ends_swapped.same_length ∙ fits.all_pairs;
       };
       config = record { mesh = refl; channels = refl; depth = refl; names = refl };
       ways = refl;

@@ -34,12 +34,12 @@ use Rattle.worm_theory.proofs.RegionQueues.{first_part}
 use Rattle.worm_split.specs.declared.ends.End.{End}
 use Rattle.worm_split.specs.declared.ends.End.TheVariants.{Inner}
 use Rattle.worm_split.specs.Apart.{AreWays}
-use Rattle.worm_split.specs.Ends.{AreEndsMade, IsSameEnd, end_at, end_made, given_on, line_at, returned_on, sent_on}
+use Rattle.worm_split.specs.Ends.{AreEndsMade, IsSameEnd, end_at, end_made, given_on, pair_at, returned_on, sent_on}
 use Rattle.worm_split.specs.Ends.{taken_on}
 use Rattle.worm_split.specs.Exchange.{far_of, near_of, way_at}
 use Rattle.worm_split.specs.PartState.{PartState, HasConfigOf, IsPart, end_of, owns, part_network, returned_to}
 use Rattle.worm_split.specs.PartState.{taken_by}
-use Rattle.worm_split.specs.Splits.{AreLinesMade}
+use Rattle.worm_split.specs.Splits.{ArePairsMade}
 use Rattle.worm_split.proofs.FirstEnds.{IsUnused, first_unused, same_end_itself}
 use Rattle.worm_split.proofs.Gathered.{IsWay, net_holds, way_is}
 use Rattle.worm_split.proofs.JoinNet.{no_link_there}
@@ -56,7 +56,7 @@ pub record IsDealtPart (ways : List LinkEnds) (p : PartState) : Type 0 where
   pub flits : (k : ℕ) → (link_at p.net k).flits ≡ cond (far_of p.net.own ways k) (link_at p.opening k).flits []
   pub credits : (k : ℕ) → (link_at p.net k).credits ≡ cond (near_of p.net.own ways k) (link_at p.opening k).credits []
   pub ends : (k : ℕ) → end_at p.ends k ≡ end_made (near_of p.net.own ways k) (far_of p.net.own ways k)
-      (line_at p.lines k)
+      (pair_at p.pairs k)
   pub all_ends : length p.ends ≡ link_count p.opening.mesh
   pub framed : IsFramed p.net
 
@@ -65,7 +65,7 @@ both_none {A} true = refl
 both_none {A} false = refl
 
 module _ (p : PartState) (net : IsNet p.opening) (ways : List LinkEnds) (are : AreWays p.opening.mesh ways)
-    (made : AreLinesMade p.opening p.net.own.workers ways p.lines) (dealt : IsDealtPart ways p) where
+    (made : ArePairsMade p.opening p.net.own.workers ways p.pairs) (dealt : IsDealtPart ways p) where
   abbrev O : NetState
   O = p.opening
 
@@ -144,35 +144,35 @@ module _ (p : PartState) (net : IsNet p.opening) (ways : List LinkEnds) (are : A
         ∙ ((λ t. cond (near_is t) (link_at O k).credits []) ∙ ap (λ (l : List ℕ). cond (owns p y) l []) (sym
         (credits_there O y o net.framed has)))))
 
-    pub end_linked : end_of p y o ≡ end_made (owns p y) (owns p x) (line_at p.lines k)
+    pub end_linked : end_of p y o ≡ end_made (owns p y) (owns p x) (pair_at p.pairs k)
     end_linked = rw has_now (ap (λ (n : ℕ). end_at p.ends n) number ∙ (dealt.ends k
-        ∙ (λ t. end_made (near_is t) (far_is t) (line_at p.lines k))))
+        ∙ (λ t. end_made (near_is t) (far_is t) (pair_at p.pairs k))))
 
-    pub line_made : (y % p.net.own.workers ≡ x % p.net.own.workers → ⊥)
+    pub pair_made : (y % p.net.own.workers ≡ x % p.net.own.workers → ⊥)
         → AreEndsMade O.mesh O.channels O.depth y o (past_of (shape p.opening) (network_of p.opening) y o x)
-        (line_at p.lines k).out (line_at p.lines k).into
-    line_made apart =
+        (pair_at p.pairs k).out (pair_at p.pairs k).into
+    pair_made apart =
         let W = p.net.own.workers in
-        let line = line_at p.lines k in
+        let pair = pair_at p.pairs k in
         let z = way_at ways k in
         let all = made.all in
         let within = way.within in
         let had = (made.each k (omega arith)).between (λ e. apart (subst (λ (i : ℕ). i % W ≡ x % W) way.from
         (subst (λ (i : ℕ). z.from % W ≡ i % W) way.to e))) in
-        subst (λ (i : ℕ). AreEndsMade O.mesh O.channels O.depth y o (past_of (shape O) old y o i) line.out line.into)
+        subst (λ (i : ℕ). AreEndsMade O.mesh O.channels O.depth y o (past_of (shape O) old y o i) pair.out pair.into)
         way.to
         (subst (λ (i : ℕ). AreEndsMade O.mesh O.channels O.depth y i (past_of
-        (shape O) old y i z.to) line.out line.into) way.out_port
+        (shape O) old y i z.to) pair.out pair.into) way.out_port
         (subst (λ (i : ℕ). AreEndsMade O.mesh O.channels O.depth i z.out_port (past_of
-        (shape O) old i z.out_port z.to) line.out line.into) way.from had))
+        (shape O) old i z.out_port z.to) pair.out pair.into) way.from had))
 
     pub unused : IsUnused (owns p y) (owns p x) (end_of p y o)
     unused =
-        let line = line_at p.lines k in
+        let pair = pair_at p.pairs k in
         subst (λ (e : End). IsUnused (owns p y) (owns p x) e) (sym end_linked)
         (first_unused O.mesh O.channels O.depth y o (past_of (shape p.opening) (network_of p.opening) y o x) (owns p y)
-        (owns p x) line.out line.into
-        (λ apart. line_made (λ e. apart (ap (λ (r : ℕ). r == p.net.own.worker) e))))
+        (owns p x) pair.out pair.into
+        (λ apart. pair_made (λ e. apart (ap (λ (r : ℕ). r == p.net.own.worker) e))))
 
   -- a port with no link
   module _ (y o : ℕ) (none : (shape p.opening).neighbour y o ≡ None) where
@@ -318,11 +318,11 @@ module _ (p : PartState) (net : IsNet p.opening) (ways : List LinkEnds) (are : A
         opened = net;
         config = dealt.config;
         worker = dealt.worker;
-        made = λ y o x linked apart. line_made y o x linked apart;
+        made = λ y o x linked apart. pair_made y o x linked apart;
         all_ends = dealt.all_ends ∙ ap link_count (sym dealt.config.mesh);
-        ends = λ y o x linked. subst (λ (e : End). IsSameEnd (end_made (owns p y) (owns p x) (line_at p.lines
+        ends = λ y o x linked. subst (λ (e : End). IsSameEnd (end_made (owns p y) (owns p x) (pair_at p.pairs
             (links_before p.opening.mesh y o))) e)
-            (sym (end_linked y o x linked)) (same_end_itself (end_made (owns p y) (owns p x) (line_at p.lines
+            (sym (end_linked y o x linked)) (same_end_itself (end_made (owns p y) (owns p x) (pair_at p.pairs
             (links_before p.opening.mesh y o))));
         holds = subst (λ (f : ℕ → ℕ → List ℕ). HasPart s old (owns p) (part_network p) (taken_by p) f) returns
             (subst (λ (f : ℕ → ℕ → List Flit). HasPart s old (owns p) (part_network p) f (λ y o. [])) takes begun);

@@ -21,9 +21,9 @@ use Rattle.worm_theory.specs.Region.{HasPart, Begins}
 use Rattle.worm_theory.specs.Openings.{past_of}
 use Rattle.worm_theory.proofs.RegionQueues.{first_part}
 use Rattle.worm_split.specs.declared.ends.End.TheVariants.{Inner}
-use Rattle.worm_split.specs.declared.ends.Line.{Line}
+use Rattle.worm_split.specs.declared.ends.EndPair.{EndPair}
 use Rattle.worm_split.specs.Apart.{AreWays}
-use Rattle.worm_split.specs.Ends.{AreEndsMade, IsSameEnd, end_made, line_at, returned_on, taken_on}
+use Rattle.worm_split.specs.Ends.{AreEndsMade, IsSameEnd, end_made, pair_at, returned_on, taken_on}
 use Rattle.worm_split.specs.Exchange.{way_at}
 use Rattle.worm_split.specs.Joins.{AreParts, owner_of}
 use Rattle.worm_split.specs.PartState.{PartState, IsPart, end_of, part_network, returned_to, taken_by}
@@ -158,16 +158,16 @@ module _ (parts : List PartState) (are : AreParts parts) (hold : (w : ℕ) → w
 
   -- both ends of a link between two workers, as they were made
   pub made : (y o x : ℕ) → (shape opening).neighbour y o ≡ Some x → (y % workers ≡ x % workers → ⊥)
-      → let line = line_at (part_at parts 0).lines (links_before opening.mesh y o) in
+      → let pair = pair_at (part_at parts 0).pairs (links_before opening.mesh y o) in
       AreEndsMade opening.mesh opening.channels opening.depth y o (past_of (shape opening)
-      (network_of opening) y o x) line.out line.into
+      (network_of opening) y o x) pair.out pair.into
   made y o x linked apart =
       let all = ap (λ (own : Owner). own.workers) (are.owns 0 are.some) in
       first.made y o x linked (λ e. apart (subst (λ (n : ℕ). y % n ≡ x % n) all e))
 
   -- a worker's end of a link is one of them, whatever went over it
   pub same_end : (w : ℕ) → w < workers → (y o x : ℕ) → (shape opening).neighbour y o ≡ Some x
-      → IsSameEnd (end_made (y % workers == w) (x % workers == w) (line_at (part_at parts 0).lines
+      → IsSameEnd (end_made (y % workers == w) (x % workers == w) (pair_at (part_at parts 0).pairs
       (links_before opening.mesh y o))) (end_of (part_at parts w) y o)
   same_end w below y o x linked =
       let p = part_at parts w in
@@ -177,11 +177,11 @@ module _ (parts : List PartState) (are : AreParts parts) (hold : (w : ℕ) → w
       (shape z).neighbour y o ≡ Some x) (sym back) linked in
       let had = (hold w below).ends y o x then in
       let by_opening = subst (λ (z : NetState). IsSameEnd (end_made (owned_by p.net.own y) (owned_by p.net.own x)
-      (line_at p.lines (links_before z.mesh y o))) (end_of p y o)) back had in
-      let by_lines = subst (λ (lines : List Line). IsSameEnd (end_made (owned_by p.net.own y) (owned_by p.net.own x)
-      (line_at lines k)) (end_of p y o)) (are.one_split w below) by_opening in
-      subst (λ (own : Owner). IsSameEnd (end_made (owned_by own y) (owned_by own x) (line_at
-      (part_at parts 0).lines k)) (end_of p y o)) (are.owns w below) by_lines
+      (pair_at p.pairs (links_before z.mesh y o))) (end_of p y o)) back had in
+      let by_pairs = subst (λ (pairs : List EndPair). IsSameEnd (end_made (owned_by p.net.own y) (owned_by p.net.own x)
+      (pair_at pairs k)) (end_of p y o)) (are.one_split w below) by_opening in
+      subst (λ (own : Owner). IsSameEnd (end_made (owned_by own y) (owned_by own x) (pair_at
+      (part_at parts 0).pairs k)) (end_of p y o)) (are.owns w below) by_pairs
 
   pub owner_below : (x : ℕ) → x % workers < workers
   owner_below x = let some = are.some in omega arith
@@ -190,7 +190,7 @@ module _ (parts : List PartState) (are : AreParts parts) (hold : (w : ℕ) → w
   pub ends_of_link : (y o x : ℕ) → (shape opening).neighbour y o ≡ Some x → (y % workers ≡ x % workers → ⊥)
       → Meet (end_of (owner_of parts y) y o) (end_of (owner_of parts x) y o)
   ends_of_link y o x linked apart =
-      let line = line_at (part_at parts 0).lines (links_before opening.mesh y o) in
+      let pair = pair_at (part_at parts 0).pairs (links_before opening.mesh y o) in
       let near = same_end (y % workers) (owner_below y) y o x linked in
       let far = same_end (x % workers) (owner_below x) y o x linked in
       let here : (y % workers == y % workers) ≡ true = eq-eqb _ _ refl in
@@ -198,7 +198,7 @@ module _ (parts : List PartState) (are : AreParts parts) (hold : (w : ℕ) → w
       let apart_1 : (x % workers == y % workers) ≡ false = not_same (x % workers) (y % workers) (λ e. apart (sym e)) in
       let apart_2 : (y % workers == x % workers) ≡ false = not_same (y % workers) (x % workers) apart in
       ends_meet opening.mesh opening.channels opening.depth y o (past_of (shape opening)
-      (network_of opening) y o x) line.out line.into
+      (network_of opening) y o x) pair.out pair.into
       (end_of (owner_of parts y) y o) (end_of (owner_of parts x) y o) (made y o x linked apart)
       (rw (here, apart_1) at near) (rw (there, apart_2) at far)
 

@@ -9,7 +9,7 @@ use Rattle.worm_node.specs.declared.node.Node.{Node}
 use Rattle.worm_region.specs.declared.owner.Owner.{Owner}
 use Rattle.worm_split.specs.declared.ends.End.{End}
 use Rattle.worm_split.specs.Apart.{Apart, IsPutBack}
-use Rattle.worm_split.specs.Ends.{end_at, line_at}
+use Rattle.worm_split.specs.Ends.{end_at, pair_at}
 use Rattle.worm_split.specs.Exchange.{way_at}
 use Rattle.worm_split.specs.Joins.{AreParts, IsBetween, IsGathered, owner_of}
 use Rattle.worm_split.specs.PartState.{PartState, IsPart}
@@ -79,10 +79,10 @@ module _ (parts : List PartState) (are : AreParts parts) (n : ℕ) (there : n < 
       (gathered.credits k)
 
   new_out : (k : ℕ) → let way = way_at kept.ways k in IsBetween W kept.ways k → n ≤ way.from % W
-      → (line_at new.lines k).out ≡ end_at (owner_of parts way.from).ends k
+      → (pair_at new.pairs k).out ≡ end_at (owner_of parts way.from).ends k
   new_out k between from =
       let way = way_at kept.ways k in
-      let now = (ends_now p.net.own kept.ways kept.lines p.ends new.lines back.2 back.3.ends k).out in
+      let now = (ends_now p.net.own kept.ways kept.pairs p.ends new.pairs back.2 back.3.ends k).out in
       elim (cases_eq (way.from % W) n) [
         | inl e ↦
             let near = owned_here way.from e in
@@ -94,10 +94,10 @@ module _ (parts : List PartState) (are : AreParts parts) (n : ℕ) (there : n < 
       ]
 
   new_into : (k : ℕ) → let way = way_at kept.ways k in IsBetween W kept.ways k → n ≤ way.to % W
-      → (line_at new.lines k).into ≡ end_at (owner_of parts way.to).ends k
+      → (pair_at new.pairs k).into ≡ end_at (owner_of parts way.to).ends k
   new_into k between from =
       let way = way_at kept.ways k in
-      let now = (ends_now p.net.own kept.ways kept.lines p.ends new.lines back.2 back.3.ends k).into in
+      let now = (ends_now p.net.own kept.ways kept.pairs p.ends new.pairs back.2 back.3.ends k).into in
       elim (cases_eq (way.to % W) n) [
         | inl e ↦
             let far = owned_here way.to e in
@@ -105,7 +105,7 @@ module _ (parts : List PartState) (are : AreParts parts) (n : ℕ) (there : n < 
             now ∙ (rw (near, far) refl ∙ ap (λ (q : PartState). end_at q.ends k) (sym (owner_here way.to e)))
         | inr apart ↦
             let far = owned_not way.to apart in
-            now ∙ (rw far (either_way (owned_by p.net.own way.from) (line_at kept.lines k).into)
+            now ∙ (rw far (either_way (owned_by p.net.own way.from) (pair_at kept.pairs k).into)
             ∙ gathered.intos k between (further_on way.to from apart))
       ]
 

@@ -204,7 +204,7 @@ module _ {p : PartState} {x z v o : ℕ} {flit : Flit} {links : PortLinks} {n : 
       = λ t. record p { net = lets.exact t; ends = slice_set p.ends (number_is t) (new_is t) } in (
         subst IsPart to made,
         record { out = o; flit = flit; tx = tx; back = back; ready = going.ready; end = end_is; answer = inl exact },
-        record { config = config; opening = refl; lines = refl },
+        record { config = config; opening = refl; pairs = refl },
       )
 
   -- it came back
@@ -323,7 +323,7 @@ module _ {p : PartState} {x o v : ℕ} {links : PortLinks} {n : ℕ} {end : End}
           end = entering_is;
           answer = inl exact;
         },
-        record { config = config; opening = refl; lines = refl },
+        record { config = config; opening = refl; pairs = refl },
       )
 
   -- it came back

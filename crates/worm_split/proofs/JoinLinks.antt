@@ -14,7 +14,7 @@ use Rattle.worm_region.proofs.LinkWritten.{credits_there, out_there}
 use Rattle.worm_split.specs.declared.ends.End.{End}
 use Rattle.worm_split.specs.declared.ends.End.TheVariants.{Inner, Leaving}
 use Rattle.worm_split.specs.Apart.{Apart, AreWays}
-use Rattle.worm_split.specs.Ends.{end_at, given_on, line_at, returned_on, sent_on, taken_on}
+use Rattle.worm_split.specs.Ends.{end_at, given_on, pair_at, returned_on, sent_on, taken_on}
 use Rattle.worm_split.specs.Exchange.{way_at}
 use Rattle.worm_split.specs.Joins.{AreEmptied, AreOfOne, AreParts, IsBetween, IsEmptied, IsEmptiedOf, IsGathered}
 use Rattle.worm_split.specs.Joins.{owner_of}
@@ -111,21 +111,21 @@ module _ (parts : List PartState) (are : AreParts parts) (kept : Apart) (gathere
     between apart e = apart (subst (λ (z : ℕ). y % length parts ≡ z % length parts) way.to
         (subst (λ (z : ℕ). z % length parts ≡ (way_at kept.ways k).to % length parts) way.from e))
 
-    out_gathered : (y % length parts ≡ x % length parts → ⊥) → (line_at kept.lines k).out ≡ end_of near y o
+    out_gathered : (y % length parts ≡ x % length parts → ⊥) → (pair_at kept.pairs k).out ≡ end_of near y o
     out_gathered apart =
-        subst (λ (z : ℕ). (line_at kept.lines k).out ≡ end_at (owner_of parts z).ends k) way.from
+        subst (λ (z : ℕ). (pair_at kept.pairs k).out ≡ end_at (owner_of parts z).ends k) way.from
         (gathered.outs k (between apart) (omega arith)) ∙ sym (end_here (y % length parts)
         (owner_below parts are hold y))
 
-    into_gathered : (y % length parts ≡ x % length parts → ⊥) → (line_at kept.lines k).into ≡ end_of far y o
+    into_gathered : (y % length parts ≡ x % length parts → ⊥) → (pair_at kept.pairs k).into ≡ end_of far y o
     into_gathered apart =
-        subst (λ (z : ℕ). (line_at kept.lines k).into ≡ end_at (owner_of parts z).ends k) way.to
+        subst (λ (z : ℕ). (pair_at kept.pairs k).into ≡ end_at (owner_of parts z).ends k) way.to
         (gathered.intos k (between apart) (omega arith)) ∙ sym (end_here (x % length parts)
         (owner_below parts are hold x))
 
     -- the two ends that were put back are of one queue
-    pub of_one : (y % length parts ≡ x % length parts → ⊥) → AreOfOne (line_at kept.lines k).out
-        (line_at kept.lines k).into
+    pub of_one : (y % length parts ≡ x % length parts → ⊥) → AreOfOne (pair_at kept.pairs k).out
+        (pair_at kept.pairs k).into
     of_one apart =
         let meet = ends_of_link parts are hold y o x linked apart in
         rw (out_gathered apart, into_gathered apart, meet.near_is, meet.far_is) (meet.queue, meet.line)
@@ -151,7 +151,7 @@ module _ (parts : List PartState) (are : AreParts parts) (kept : Apart) (gathere
     ]
 
     module _ (links : List LinkView) (emptied : AreEmptied (length parts)
-        (length kept.ways) kept.ways kept.lines kept.net.links links) where
+        (length kept.ways) kept.ways kept.pairs kept.net.links links) where
       rest_within : y % length parts ≡ x % length parts → IsRest y o x links [] []
       rest_within same =
           let k_same : (way_at kept.ways k).from % length parts ≡
@@ -171,7 +171,7 @@ module _ (parts : List PartState) (are : AreParts parts) (kept : Apart) (gathere
           let a = slice_index_or kept.net.links k blank_link in
           let b = slice_index_or links k blank_link in
           let did = emptied.done k way.within (between apart) in
-          let did_near = subst (λ (e : End). IsEmptied e (line_at kept.lines k).into a b) (out_gathered apart
+          let did_near = subst (λ (e : End). IsEmptied e (pair_at kept.pairs k).into a b) (out_gathered apart
           ∙ meet.near_is) did in
           let is : IsEmptiedOf meet.tx meet.back meet.rx meet.give a b
           = subst (λ (e : End). IsEmptied (Leaving meet.tx meet.back) e a b) (into_gathered apart

@@ -40,7 +40,7 @@ no_link_there m y o e = elim (bool_cases (has_neighbour m y o)) [
 module _ (parts : List PartState) (are : AreParts parts) (kept : Apart) (gathered : IsGathered parts 0 kept)
     (links : List LinkView)
     (emptied : AreEmptied (length parts)
-    (length kept.ways) kept.ways kept.lines kept.net.links links) where
+    (length kept.ways) kept.ways kept.pairs kept.net.links links) where
   abbrev O : NetState
   O = (part_at parts 0).opening
 
@@ -160,9 +160,9 @@ module _ (parts : List PartState) (are : AreParts parts) (kept : Apart) (gathere
       let room = room_there y o x linked in
       (left y o x linked).flits (omega arith) ∙ sym whole_out
 
-  pub line_put : (y o x : ℕ) → s.neighbour y o ≡ Some x → (slice_index_or links
+  pub pair_put : (y o x : ℕ) → s.neighbour y o ≡ Some x → (slice_index_or links
       (number y o) blank_link).credits ≡ joined.credit_list y o
-  line_put y o x linked =
+  pair_put y o x linked =
       let whole_line = joined_line y o x linked in
       let few = few_credits y o x linked in
       let long = ap (λ (l : List ℕ). length l) whole_line in

@@ -15,7 +15,7 @@ use Rattle.worm_wires.specs.Links.{LinkView}
 use Rattle.worm_region.specs.declared.owner.Owner.{Owner}
 use Rattle.worm_theory.proofs.Regions.{parts_sinks, parts_sources}
 use Rattle.worm_split.specs.Apart.{Apart}
-use Rattle.worm_split.specs.Ends.{line_at}
+use Rattle.worm_split.specs.Ends.{pair_at}
 use Rattle.worm_split.specs.Exchange.{way_at}
 use Rattle.worm_split.specs.Joins.{AreEmptied, AreOfOne, AreParts, IsBetween, IsGathered, IsJoinOf, IsLaterThan}
 use Rattle.worm_split.specs.Joins.{IsLinkJoined, owner_of}
@@ -31,7 +31,7 @@ use Rattle.worm_split.proofs.JoinState.{network_same, new, new_framed, node_same
 -- the ends that were put back of each link between two workers are of one queue
 pub queues_meet : (parts : List PartState) (are : AreParts parts) (kept : Apart) (gathered : IsGathered parts 0 kept)
     (k : ℕ) → IsBetween (length parts) kept.ways k
-    → AreOfOne (line_at kept.lines k).out (line_at kept.lines k).into
+    → AreOfOne (pair_at kept.pairs k).out (pair_at kept.pairs k).into
 queues_meet parts are kept gathered k between = elim (cases_lt k (length kept.ways)) [
   | inl below ↦
       let O = (part_at parts 0).opening in
@@ -39,7 +39,7 @@ queues_meet parts are kept gathered k between = elim (cases_lt k (length kept.wa
       let ends = (ways parts are kept gathered).each k below in
       let frame = (first parts are (hold parts are kept gathered)).opened.framed in
       let linked = linked_of O way.from way.out_port way.to frame ends.joined in
-      subst (λ (i : ℕ). AreOfOne (line_at kept.lines i).out (line_at kept.lines i).into) ends.numbered
+      subst (λ (i : ℕ). AreOfOne (pair_at kept.pairs i).out (pair_at kept.pairs i).into) ends.numbered
       (of_one parts are kept gathered way.from way.out_port way.to linked between)
   | inr past ↦
       let none : way_at kept.ways k ≡ record { from = 0; out_port = 0; to = 0; in_port = 0 } = get_or_past
@@ -51,7 +51,7 @@ queues_meet parts are kept gathered k between = elim (cases_lt k (length kept.wa
 module _ (parts : List PartState) (are : AreParts parts) (kept : Apart) (gathered : IsGathered parts 0 kept)
     (links : List LinkView)
     (emptied : AreEmptied (length parts)
-    (length kept.ways) kept.ways kept.lines kept.net.links links) where
+    (length kept.ways) kept.ways kept.pairs kept.net.links links) where
   abbrev pub result : NetState
   result = new parts are kept gathered links emptied
 

@@ -22,13 +22,13 @@ use Rattle.worm_split.specs.PartState.{PartState, IsPart, end_of}
 use Rattle.worm_split.specs.Splits.{part_at}
 use Rattle.worm_split.proofs.Gathered.{owner_below, part_channels, part_depth, part_mesh}
 use Rattle.worm_split.proofs.JoinLinks.{has, hold}
-use Rattle.worm_split.proofs.JoinNet.{joined, line_put, no_link_there, out_put}
-use Rattle.worm_split.proofs.LinesEmptied.{emptied_framed}
+use Rattle.worm_split.proofs.JoinNet.{joined, pair_put, no_link_there, out_put}
+use Rattle.worm_split.proofs.PairsEmptied.{emptied_framed}
 
 module _ (parts : List PartState) (are : AreParts parts) (kept : Apart) (gathered : IsGathered parts 0 kept)
     (links : List LinkView)
     (emptied : AreEmptied (length parts)
-    (length kept.ways) kept.ways kept.lines kept.net.links links) where
+    (length kept.ways) kept.ways kept.pairs kept.net.links links) where
   abbrev pub new : NetState
   new = with_lists kept.net kept.net.nodes links
 
@@ -116,7 +116,7 @@ module _ (parts : List PartState) (are : AreParts parts) (kept : Apart) (gathere
 
     line_linked : (network_of new).credit_list y o ≡ (joined parts are kept gathered links emptied).credit_list y o
     line_linked = credits_there new y o new_framed has_now ∙ (ap (λ (n : ℕ). (link_at new n).credits) number_now
-        ∙ line_put parts are kept gathered links emptied y o x linked)
+        ∙ pair_put parts are kept gathered links emptied y o x linked)
 
   out_same : (y o : ℕ) (n : Option ℕ) → (shape (part_at parts 0).opening).neighbour y o ≡ n
       → (network_of new).out y o ≡ (joined parts are kept gathered links emptied).out y o

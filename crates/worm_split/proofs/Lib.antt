@@ -20,7 +20,7 @@ pub mod Emptying
 pub mod JoinLinks
 pub mod MadeSoFar
 pub mod JoinNet
-pub mod LinesEmptied
+pub mod PairsEmptied
 pub mod JoinState
 pub mod Swapped
 pub mod Exchanged

@@ -24,7 +24,7 @@ use Rattle.worm_region.proofs.PassIsGrants.{IsKeptByGrants, allocated_keeps, cho
 use Rattle.worm_theory.specs.Region.{HasPart}
 use Rattle.worm_split.specs.declared.ends.End.{End}
 use Rattle.worm_split.specs.declared.ends.End.TheVariants.{Inner, Leaving, Entering}
-use Rattle.worm_split.specs.Ends.{IsSameEnd, end_made, end_at, line_at, seen_by, taken_on, returned_on}
+use Rattle.worm_split.specs.Ends.{IsSameEnd, end_made, end_at, pair_at, seen_by, taken_on, returned_on}
 use Rattle.worm_split.specs.PartState.{PartState, IsPart, end_of, owns, taken_by, returned_to}
 use Rattle.worm_split.proofs.Keeping.{IsOf, Keeps, keeps_answer, keeps_asking, keeps_credits, keeps_flits}
 use Rattle.worm_split.proofs.Keeping.{keeps_feeding, keeps_routing, keeps_then}
@@ -58,10 +58,10 @@ module _ (p : PartState) (part : IsPart p) where
         made = rw config.own part.made;
         all_ends = part.all_ends ∙ ap link_count (sym config.mesh);
         ends = λ y o x linked.
-            let line = line_at p.lines (links_before p.opening.mesh y o) in
-            let first = subst (λ (f : ℕ → ℕ → End). IsSameEnd (end_made (owns p y) (owns p x) line) (f y o)) ends
+            let pair = pair_at p.pairs (links_before p.opening.mesh y o) in
+            let first = subst (λ (f : ℕ → ℕ → End). IsSameEnd (end_made (owns p y) (owns p x) pair) (f y o)) ends
             (part.ends y o x linked) in
-            subst (λ (w : Owner). IsSameEnd (end_made (owned_by w y) (owned_by w x) line)
+            subst (λ (w : Owner). IsSameEnd (end_made (owned_by w y) (owned_by w x) pair)
             (end_of (record p { net = net }) y o)) (sym config.own) first;
         holds =
             let Holds : (ℕ → ℕ → End) → Type 0 =

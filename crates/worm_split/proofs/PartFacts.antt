@@ -21,7 +21,7 @@ use Rattle.worm_theory.specs.Region.{HasPart}
 use Rattle.worm_theory.specs.Openings.{past_of}
 use Rattle.worm_split.specs.declared.ends.End.{End}
 use Rattle.worm_split.specs.declared.ends.End.TheVariants.{Inner, Leaving, Entering}
-use Rattle.worm_split.specs.Ends.{IsSameEnd, AreEndsMade, end_made, line_at, seen_by, taken_on, returned_on}
+use Rattle.worm_split.specs.Ends.{IsSameEnd, AreEndsMade, end_made, pair_at, seen_by, taken_on, returned_on}
 use Rattle.worm_split.specs.PartState.{PartState, IsPart, end_of, owns}
 use Rattle.worm_split.specs.PartTurns.{with_end}
 use Rattle.worm_split.proofs.EndFacts.{IsLeavingEnd, IsEnteringEnd, leaving_end, entering_end, inner_end}
@@ -104,7 +104,7 @@ module _ (p : PartState) (part : IsPart p) where
   made_of : (y o x : ℕ) → (shape p.opening).neighbour y o ≡ Some x → (owns p y ≡ owns p x → ⊥)
       → AreEndsMade p.opening.mesh p.opening.channels p.opening.depth y o
       (past_of (shape p.opening) (network_of p.opening) y o x)
-      (line_at p.lines (links_before p.opening.mesh y o)).out (line_at p.lines (links_before p.opening.mesh y o)).into
+      (pair_at p.pairs (links_before p.opening.mesh y o)).out (pair_at p.pairs (links_before p.opening.mesh y o)).into
   made_of y o x linked apart = part.made y o x linked (owned_apart p.net.own.workers p.net.own.worker y x apart)
 
   -- what is known of an end, by its kind
@@ -113,27 +113,27 @@ module _ (p : PartState) (part : IsPart p) where
       → IsLeavingEnd p.opening.mesh p.opening.channels y o (past_of (shape p.opening) (network_of p.opening) y o x)
       (owns p y) (owns p x) tx back
   is_leaving y o x tx back linked e =
-      let line = line_at p.lines (links_before p.opening.mesh y o) in
+      let pair = pair_at p.pairs (links_before p.opening.mesh y o) in
       leaving_end p.opening.mesh p.opening.channels p.opening.depth y o
-      (past_of (shape p.opening) (network_of p.opening) y o x) (owns p y) (owns p x) line.out line.into tx back
-      (made_of y o x linked) (subst (IsSameEnd (end_made (owns p y) (owns p x) line)) e (part.ends y o x linked))
+      (past_of (shape p.opening) (network_of p.opening) y o x) (owns p y) (owns p x) pair.out pair.into tx back
+      (made_of y o x linked) (subst (IsSameEnd (end_made (owns p y) (owns p x) pair)) e (part.ends y o x linked))
 
   pub is_entering : (y o x : ℕ) (rx : RxView) (give : CreditTxView) → (shape p.opening).neighbour y o ≡ Some x
       → end_of p y o ≡ Entering rx give
       → IsEnteringEnd p.opening.mesh p.opening.channels y o (past_of (shape p.opening) (network_of p.opening) y o x)
       (owns p y) (owns p x) rx give
   is_entering y o x rx give linked e =
-      let line = line_at p.lines (links_before p.opening.mesh y o) in
+      let pair = pair_at p.pairs (links_before p.opening.mesh y o) in
       entering_end p.opening.mesh p.opening.channels p.opening.depth y o
-      (past_of (shape p.opening) (network_of p.opening) y o x) (owns p y) (owns p x) line.out line.into rx give
-      (made_of y o x linked) (subst (IsSameEnd (end_made (owns p y) (owns p x) line)) e (part.ends y o x linked))
+      (past_of (shape p.opening) (network_of p.opening) y o x) (owns p y) (owns p x) pair.out pair.into rx give
+      (made_of y o x linked) (subst (IsSameEnd (end_made (owns p y) (owns p x) pair)) e (part.ends y o x linked))
 
   pub is_inner : (y o x : ℕ) → (shape p.opening).neighbour y o ≡ Some x → end_of p y o ≡ Inner → owns p y ≡ owns p x
   is_inner y o x linked e =
-      let line = line_at p.lines (links_before p.opening.mesh y o) in
+      let pair = pair_at p.pairs (links_before p.opening.mesh y o) in
       inner_end p.opening.mesh p.opening.channels p.opening.depth y o
-      (past_of (shape p.opening) (network_of p.opening) y o x) (owns p y) (owns p x) line.out line.into
-      (made_of y o x linked) (subst (IsSameEnd (end_made (owns p y) (owns p x) line)) e (part.ends y o x linked))
+      (past_of (shape p.opening) (network_of p.opening) y o x) (owns p y) (owns p x) pair.out pair.into
+      (made_of y o x linked) (subst (IsSameEnd (end_made (owns p y) (owns p x) pair)) e (part.ends y o x linked))
 
   -- With another end of one link that is of the same queues, and with another network of the same configuration, it is
   -- a part where the theory says so.
@@ -158,10 +158,10 @@ module _ (p : PartState) (part : IsPart p) where
         all_ends = rw length-set (part.all_ends ∙ ap link_count (sym config.mesh));
         ends = λ y q z linked.
             let had = part.ends y q z linked in
-            let made = end_made (owns p y) (owns p z) (line_at p.lines (links_before p.opening.mesh y q)) in
+            let made = end_made (owns p y) (owns p z) (pair_at p.pairs (links_before p.opening.mesh y q)) in
             let Same : End → Type 0 = λ k. IsSameEnd made k in
             subst (λ (w : Owner). IsSameEnd (end_made (owned_by w y) (owned_by w z)
-            (line_at p.lines (links_before p.opening.mesh y q))) (end_of (with_end p x o e net) y q))
+            (pair_at p.pairs (links_before p.opening.mesh y q))) (end_of (with_end p x o e net) y q))
             (sym config.own)
             (subst Same (sym (new y q)) (elim (place_cases y q x o) [
               | inl here ↦

@@ -68,7 +68,7 @@ pub same_still : (p : PartState) → IsSamePart p p
 same_still p = record {
   config = record { mesh = refl; channels = refl; depth = refl; names = refl; own = refl };
   opening = refl;
-  lines = refl;
+  pairs = refl;
 }
 
 pub same_on : (a b c : PartState) → IsSamePart a b → IsSamePart b c → IsSamePart a c
@@ -84,5 +84,5 @@ same_on a b c h k =
         own = then.own ∙ first.own;
       };
       opening = k.opening ∙ h.opening;
-      lines = k.lines ∙ h.lines;
+      pairs = k.pairs ∙ h.pairs;
     }

@@ -12,7 +12,7 @@ worker_of w m = record { worker = w; workers = m }
 
 module _ (opening : NetState) (workers : ℕ) (parts : List PartState) (split : IsSplitOf opening workers parts)
     (some : 0 < workers) where
-  first_part : (w : ℕ) → w < workers → IsFirstPart opening workers w split.lines (part_at parts w)
+  first_part : (w : ℕ) → w < workers → IsFirstPart opening workers w split.pairs (part_at parts w)
   first_part w below = split.each w below
 
   pub split_parts : AreParts parts
@@ -46,5 +46,5 @@ module _ (old new : List PartState) (parts : AreParts old) (count : length new �
             (same w under).opening ∙ (parts.one_opening w under ∙ sym (same 0 some).opening);
         one_split = λ w below.
             let under : w < length old = omega (arith, count) in
-            (same w under).lines ∙ (parts.one_split w under ∙ sym (same 0 some).lines);
+            (same w under).pairs ∙ (parts.one_split w under ∙ sym (same 0 some).pairs);
       }

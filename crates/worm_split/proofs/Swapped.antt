@@ -11,8 +11,8 @@ use Rattle.worm_node.specs.declared.node.Node.{Node}
 use Rattle.worm_region.specs.declared.owner.Owner.{Owner}
 use Rattle.worm_split.specs.declared.ends.End.{End}
 use Rattle.worm_split.specs.declared.ends.End.TheVariants.{Inner}
-use Rattle.worm_split.specs.declared.ends.Line.{Line}
-use Rattle.worm_split.specs.Ends.{end_at, line_at, no_line}
+use Rattle.worm_split.specs.declared.ends.EndPair.{EndPair}
+use Rattle.worm_split.specs.Ends.{end_at, pair_at, no_pair}
 use Rattle.worm_split.specs.Exchange.{EndsSwapped, LinksSwapped, NodesSwapped, far_of, near_of}
 
 abbrev pub link_in : List LinkView → ℕ → LinkView
@@ -99,31 +99,31 @@ module _ (own : Owner) (ways : List LinkEnds) (xs ys us vs : List LinkView) (swa
       let one = swapped.one_length in
       (done.room m (mine k below) (other k (omega arith)), done.other_room m (mine k below) (other k (omega arith)))
 
-module _ (own : Owner) (ways : List LinkEnds) (xs : List Line) (ys : List End) (us : List Line) (vs : List End)
+module _ (own : Owner) (ways : List LinkEnds) (xs : List EndPair) (ys : List End) (us : List EndPair) (vs : List End)
     (swapped : EndsSwapped own ways (length xs) xs ys us vs) where
   pub record EndNow (k : ℕ) : Type 0 where
-    pub own_end : end_at vs k ≡ cond (near_of own ways k) (cond (far_of own ways k) (end_at ys k) (line_at xs k).out)
-        (cond (far_of own ways k) (line_at xs k).into (end_at ys k))
-    pub out : (line_at us k).out ≡ cond (near_of own ways k) (cond (far_of own ways k) (line_at xs k).out
-        (end_at ys k)) (line_at xs k).out
-    pub into : (line_at us k).into ≡ cond (near_of own ways k) (line_at xs k).into (cond (far_of own ways k)
-        (end_at ys k) (line_at xs k).into)
+    pub own_end : end_at vs k ≡ cond (near_of own ways k) (cond (far_of own ways k) (end_at ys k) (pair_at xs k).out)
+        (cond (far_of own ways k) (pair_at xs k).into (end_at ys k))
+    pub out : (pair_at us k).out ≡ cond (near_of own ways k) (cond (far_of own ways k) (pair_at xs k).out
+        (end_at ys k)) (pair_at xs k).out
+    pub into : (pair_at us k).into ≡ cond (near_of own ways k) (pair_at xs k).into (cond (far_of own ways k)
+        (end_at ys k) (pair_at xs k).into)
 
   pub ends_now : (k : ℕ) → EndNow k
   ends_now k = elim (cases_lt k (length xs)) [
     | inl below ↦
-        let done = swapped.done k below no_line Inner in
+        let done = swapped.done k below no_pair Inner in
         record { own_end = done.own_end; out = done.out; into = done.into }
     | inr past ↦
         let one = swapped.one_length in
-        let was = swapped.rest k past no_line Inner in
-        let mine : line_at xs k ≡ no_line = get_or_past xs k no_line past in
+        let was = swapped.rest k past no_pair Inner in
+        let mine : pair_at xs k ≡ no_pair = get_or_past xs k no_pair past in
         let other : end_at ys k ≡ Inner = get_or_past ys k Inner (omega arith) in
         let near = near_of own ways k in
         let far = far_of own ways k in
         record {
           own_end = was.1 ∙ (other ∙ rw (mine, other) (all_inner near far));
-          out = ap (λ (l : Line). l.out) (was.0 ∙ mine) ∙ rw (mine, other) (all_inner_near near far);
-          into = ap (λ (l : Line). l.into) (was.0 ∙ mine) ∙ rw (mine, other) (all_inner_far near far);
+          out = ap (λ (l : EndPair). l.out) (was.0 ∙ mine) ∙ rw (mine, other) (all_inner_near near far);
+          into = ap (λ (l : EndPair). l.into) (was.0 ∙ mine) ∙ rw (mine, other) (all_inner_far near far);
         }
   ]

@@ -11,7 +11,7 @@ use Rattle.worm_wires.specs.Links.{LinkView}
 use Rattle.worm_node.specs.declared.node.Node.{Node}
 use Rattle.worm_region.specs.declared.owner.Owner.{Owner}
 use Rattle.worm_split.specs.declared.ends.End.{End}
-use Rattle.worm_split.specs.declared.ends.Line.{Line}
+use Rattle.worm_split.specs.declared.ends.EndPair.{EndPair}
 use Rattle.worm_split.specs.Exchange.{AreSwapped, EndsSwapped, LinksSwapped, NodesSwapped, SwapsEnd, SwapsLink}
 use Rattle.worm_split.specs.Exchange.{SwapsNode, far_of, near_of, way_at}
 
@@ -100,8 +100,8 @@ module _ (own : Owner) (ways : List LinkEnds) (k : ℕ) (way : LinkEnds) (way_in
       (subst (λ (x : LinkView). SwapsLink near far x (slice_index_or vs k e) new_a new_b) (a_read d)
       (subst (λ (y : LinkView). SwapsLink near far a y new_a new_b) (b_read e) swaps))))
 
-  pub ends_further : (xs : List Line) (ys : List End) (us : List Line) (vs : List End) (a : Line) (b : End)
-      (new_a : Line) (new_b : End)
+  pub ends_further : (xs : List EndPair) (ys : List End) (us : List EndPair) (vs : List End) (a : EndPair) (b : End)
+      (new_a : EndPair) (new_b : End)
       → EndsSwapped own ways k xs ys us vs → k < length xs
       → a ≡ slice_index_or us k a → b ≡ slice_index_or vs k b → SwapsEnd near far a b new_a new_b
       → EndsSwapped own ways (k + 1) xs ys (slice_set us k new_a) (slice_set vs k new_b)
@@ -114,5 +114,5 @@ module _ (own : Owner) (ways : List LinkEnds) (k : ℕ) (way : LinkEnds) (way_in
       subst (λ (n : Bool). SwapsEnd n (far_of own ways k) (slice_index_or us k d)
       (slice_index_or vs k e) new_a new_b) near_here
       (subst (λ (f : Bool). SwapsEnd near f (slice_index_or us k d) (slice_index_or vs k e) new_a new_b) far_here
-      (subst (λ (x : Line). SwapsEnd near far x (slice_index_or vs k e) new_a new_b) (a_read d)
+      (subst (λ (x : EndPair). SwapsEnd near far x (slice_index_or vs k e) new_a new_b) (a_read d)
       (subst (λ (y : End). SwapsEnd near far a y new_a new_b) (b_read e) swaps))))

@@ -10,7 +10,7 @@ use Rattle.worm_region.specs.declared.config.Config.{Config}
 use Rattle.worm_node.specs.declared.node.Node.{Node}
 use Rattle.worm_region.specs.declared.owner.Owner.{Owner}
 use Rattle.worm_split.specs.declared.ends.End.{End}
-use Rattle.worm_split.specs.declared.ends.Line.{Line}
+use Rattle.worm_split.specs.declared.ends.EndPair.{EndPair}
 use Rattle.worm_split.specs.Exchange.{EndsSwapped, LinksSwapped, NodesSwapped, way_at}
 use Rattle.worm_split.specs.PartState.{HasConfigOf}
 
@@ -19,14 +19,14 @@ use Rattle.worm_split.specs.PartState.{HasConfigOf}
 pub record Apart : Type 0 where
   pub net : NetState
   pub ways : List LinkEnds
-  pub lines : List Line
+  pub pairs : List EndPair
 
-abbrev pub taken_apart : Config → List LinkEnds → List Node → List LinkView → List Line → Apart
-taken_apart config ways nodes links lines = record {
+abbrev pub taken_apart : Config → List LinkEnds → List Node → List LinkView → List EndPair → Apart
+taken_apart config ways nodes links pairs = record {
   net = net_state config.radices.items config.channels.items config.depth (texts_of config.classes.items) nodes links
       sole;
   ways = ways;
-  lines = lines;
+  pairs = pairs;
 }
 
 -- the two nodes of each link, by the link's number
@@ -39,7 +39,7 @@ pub record Fits (a : Apart) : Type 0 where
   pub framed : IsFramed a.net
   pub all_owned : a.net.own ≡ sole
   pub ways : AreWays a.net.mesh a.ways
-  pub all_lines : length a.lines ≡ link_count a.net.mesh
+  pub all_pairs : length a.pairs ≡ link_count a.net.mesh
 
 -- the last worker has one, and what anyone has is of the network that was split
 abbrev pub IsKept : NetState → Owner → Option Apart → Type 0
@@ -64,7 +64,7 @@ pub record IsExchanged (own : Owner) (old new : Apart) (own_nodes new_nodes : Li
   pub ways : new.ways ≡ old.ways
   pub nodes : NodesSwapped own (length old.net.nodes) old.net.nodes own_nodes new.net.nodes new_nodes
   pub links : LinksSwapped own old.ways (length old.net.links) old.net.links own_links new.net.links new_links
-  pub ends : EndsSwapped own old.ways (length old.lines) old.lines own_ends new.lines new_ends
+  pub ends : EndsSwapped own old.ways (length old.pairs) old.pairs own_ends new.pairs new_ends
   pub framed : IsFramed (with_lists old.net new_nodes new_links)
 
 -- the same, whatever becomes of the worker's own lists

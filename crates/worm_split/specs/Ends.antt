@@ -10,7 +10,7 @@ use Rattle.worm_links.specs.Links.{MayCross, link_capacity}
 use Rattle.worm_theory.specs.Network.{Network}
 use Rattle.worm_split.specs.declared.ends.End.{End}
 use Rattle.worm_split.specs.declared.ends.End.TheVariants.{Inner, Leaving, Entering}
-use Rattle.worm_split.specs.declared.ends.Line.{Line}
+use Rattle.worm_split.specs.declared.ends.EndPair.{EndPair}
 
 -- the link by port o of node y, in a mesh with these radices, whose classes own these numbers of channels
 pub record IsLinkOf (mesh channels : List ℕ) (y o : ℕ) (link : LinkCfg) : Type 0 where
@@ -79,8 +79,8 @@ IsSameEnd (Entering rx give) (Entering rx2 give2) =
 
 -- The end of a link that a worker has, of the two that were made: whether it owns the node that the link leaves, and
 -- the one that the link enters.
-abbrev pub end_made : Bool → Bool → Line → End
-end_made near far line = cond near (cond far Inner line.out) (cond far line.into Inner)
+abbrev pub end_made : Bool → Bool → EndPair → End
+end_made near far pair = cond near (cond far Inner pair.out) (cond far pair.into Inner)
 
 -- The two ends of the link by port o of node y, as they are made: of one flit queue with this past, which holds as many
 -- flits as buffers of this depth beyond it, and of one credit line; nothing has gone over either.
@@ -99,11 +99,11 @@ AreEndsMade mesh channels depth y o past (Leaving tx back) (Leaving tx2 back2) =
 abbrev pub end_at : List End → ℕ → End
 end_at ends k = slice_index_or ends k Inner
 
-abbrev pub no_line : Line
-no_line = record { out = Inner; into = Inner }
+abbrev pub no_pair : EndPair
+no_pair = record { out = Inner; into = Inner }
 
-abbrev pub line_at : List Line → ℕ → Line
-line_at lines k = slice_index_or lines k no_line
+abbrev pub pair_at : List EndPair → ℕ → EndPair
+pair_at pairs k = slice_index_or pairs k no_pair
 
 -- What goes over an end
 

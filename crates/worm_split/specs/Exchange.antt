@@ -8,7 +8,7 @@ use Rattle.worm_wires.specs.Links.{LinkView}
 use Rattle.worm_node.specs.declared.node.Node.{Node}
 use Rattle.worm_region.specs.declared.owner.Owner.{Owner}
 use Rattle.worm_split.specs.declared.ends.End.{End}
-use Rattle.worm_split.specs.declared.ends.Line.{Line}
+use Rattle.worm_split.specs.declared.ends.EndPair.{EndPair}
 
 -- by number of the link, its two nodes and its two ports
 abbrev pub way_at : List LinkEnds → ℕ → LinkEnds
@@ -35,11 +35,11 @@ pub record SwapsLink (near far : Bool) (a b new_a new_b : LinkView) : Type 0 whe
   pub room : (m : ℕ) → m ≤ a.room → m ≤ b.room → m ≤ new_a.room
   pub other_room : (m : ℕ) → m ≤ a.room → m ≤ b.room → m ≤ new_b.room
 
--- a worker's end changes places with the one of the line that is the worker's, where just one node of the link is
-pub record SwapsEnd (near far : Bool) (line : Line) (end : End) (new_line : Line) (new_end : End) : Type 0 where
-  pub own_end : new_end ≡ cond near (cond far end line.out) (cond far line.into end)
-  pub out : new_line.out ≡ cond near (cond far line.out end) line.out
-  pub into : new_line.into ≡ cond near line.into (cond far end line.into)
+-- a worker's end changes places with the one of the pair that is the worker's, where just one node of the link is
+pub record SwapsEnd (near far : Bool) (pair : EndPair) (end : End) (new_pair : EndPair) (new_end : End) : Type 0 where
+  pub own_end : new_end ≡ cond near (cond far end pair.out) (cond far pair.into end)
+  pub out : new_pair.out ≡ cond near (cond far pair.out end) pair.out
+  pub into : new_pair.into ≡ cond near pair.into (cond far end pair.into)
 
 -- the items of two lists of one length changed by a rule, up to this place
 pub record AreSwapped {A B : Type 0} (Swaps : ℕ → A → B → A → B → Type 0) (count : ℕ)
@@ -59,5 +59,5 @@ abbrev pub LinksSwapped : Owner → List LinkEnds → ℕ → List LinkView → 
     → Type 0
 LinksSwapped own ways = AreSwapped (λ k. SwapsLink (near_of own ways k) (far_of own ways k))
 
-abbrev pub EndsSwapped : Owner → List LinkEnds → ℕ → List Line → List End → List Line → List End → Type 0
+abbrev pub EndsSwapped : Owner → List LinkEnds → ℕ → List EndPair → List End → List EndPair → List End → Type 0
 EndsSwapped own ways = AreSwapped (λ k. SwapsEnd (near_of own ways k) (far_of own ways k))

@@ -14,8 +14,8 @@ use Rattle.worm_wires.specs.Links.{LinkView, blank_link}
 use Rattle.worm_node.specs.declared.node.Node.{Node}
 use Rattle.worm_split.specs.declared.ends.End.{End}
 use Rattle.worm_split.specs.declared.ends.End.TheVariants.{Inner, Leaving, Entering}
-use Rattle.worm_split.specs.declared.ends.Line.{Line}
-use Rattle.worm_split.specs.Ends.{end_at, line_at}
+use Rattle.worm_split.specs.declared.ends.EndPair.{EndPair}
+use Rattle.worm_split.specs.Ends.{end_at, pair_at}
 use Rattle.worm_split.specs.PartState.{PartState, IsPart, HasConfigOf, part_network, returned_to, taken_by}
 use Rattle.worm_split.specs.Exchange.{way_at}
 use Rattle.worm_split.specs.Apart.{Apart, Fits}
@@ -26,7 +26,7 @@ pub record AreParts (parts : List PartState) : Type 0 where
   pub some : 0 < length parts
   pub owns : (w : ℕ) → w < length parts → (part_at parts w).net.own ≡ record { worker = w; workers = length parts }
   pub one_opening : (w : ℕ) → w < length parts → (part_at parts w).opening ≡ (part_at parts 0).opening
-  pub one_split : (w : ℕ) → w < length parts → (part_at parts w).lines ≡ (part_at parts 0).lines
+  pub one_split : (w : ℕ) → w < length parts → (part_at parts w).pairs ≡ (part_at parts 0).pairs
 
 -- the link's nodes are of two workers
 abbrev pub IsBetween : ℕ → List LinkEnds → ℕ → Type 0
@@ -49,10 +49,10 @@ pub record IsGathered (parts : List PartState) (from : ℕ) (kept : Apart) : Typ
       (slice_index_or kept.net.links k blank_link).credits ≡ (link_at (owner_of parts y).net k).credits
   pub outs : (k : ℕ) → let way = way_at kept.ways k in
       IsBetween (length parts) kept.ways k → from ≤ way.from % length parts →
-      (line_at kept.lines k).out ≡ end_at (owner_of parts way.from).ends k
+      (pair_at kept.pairs k).out ≡ end_at (owner_of parts way.from).ends k
   pub intos : (k : ℕ) → let way = way_at kept.ways k in
       IsBetween (length parts) kept.ways k → from ≤ way.to % length parts →
-      (line_at kept.lines k).into ≡ end_at (owner_of parts way.to).ends k
+      (pair_at kept.pairs k).into ≡ end_at (owner_of parts way.to).ends k
 
 -- what a queue still held stands behind the link's flits, or its credits, if there is room
 pub record FlitsEmptied (sent taken : List Flit) (old new : LinkView) : Type 0 where
@@ -96,11 +96,11 @@ AreOfOne (Leaving tx back) (Entering rx give) = (tx.queue ≡ rx.queue) × (give
 AreOfOne (Entering rx give) into = Unit {0}
 
 -- the links up to this one between two workers are emptied
-pub record AreEmptied (workers count : ℕ) (ways : List LinkEnds) (lines : List Line)
+pub record AreEmptied (workers count : ℕ) (ways : List LinkEnds) (pairs : List EndPair)
     (old new : List LinkView) : Type 0 where
   pub same_length : length new ≡ length old
   pub done : (k : ℕ) → k < count → IsBetween workers ways k →
-      IsEmptied (line_at lines k).out (line_at lines k).into (slice_index_or old k blank_link)
+      IsEmptied (pair_at pairs k).out (pair_at pairs k).into (slice_index_or old k blank_link)
       (slice_index_or new k blank_link)
   pub within : (k : ℕ) → (way_at ways k).from % workers ≡ (way_at ways k).to % workers →
       slice_index_or new k blank_link ≡ slice_index_or old k blank_link

@@ -11,8 +11,8 @@ use Rattle.worm_theory.specs.Region.{HasPart}
 use Rattle.worm_theory.specs.Openings.{past_of}
 use Rattle.worm_split.specs.declared.ends.End.{End}
 use Rattle.worm_split.specs.declared.ends.End.TheVariants.{Inner}
-use Rattle.worm_split.specs.declared.ends.Line.{Line}
-use Rattle.worm_split.specs.Ends.{seen_by, taken_on, returned_on, IsSameEnd, end_made, AreEndsMade, end_at, line_at}
+use Rattle.worm_split.specs.declared.ends.EndPair.{EndPair}
+use Rattle.worm_split.specs.Ends.{seen_by, taken_on, returned_on, IsSameEnd, end_made, AreEndsMade, end_at, pair_at}
 
 pub record PartState : Type 0 where
   -- the network, of which the nodes of other workers say nothing
@@ -21,10 +21,10 @@ pub record PartState : Type 0 where
   pub ends : List End
   -- the network at the split, and both ends of each link as they were made then
   pub opening : NetState
-  pub lines : List Line
+  pub pairs : List EndPair
 
-abbrev pub part_state : NetState → List End → NetState → List Line → PartState
-part_state net ends opening lines = record { net = net; ends = ends; opening = opening; lines = lines }
+abbrev pub part_state : NetState → List End → NetState → List EndPair → PartState
+part_state net ends opening pairs = record { net = net; ends = ends; opening = opening; pairs = pairs }
 
 abbrev pub owns : PartState → ℕ → Bool
 owns p = owned p.net
@@ -44,17 +44,17 @@ abbrev pub returned_to : PartState → ℕ → ℕ → List ℕ
 returned_to p y o = returned_on (end_of p y o)
 
 -- of each link between two workers the two ends that were made of it
-abbrev pub AreLines : NetState → ℕ → List Line → Type 0
-AreLines opening workers lines = (y o x : ℕ) → (shape opening).neighbour y o ≡ Some x
+abbrev pub ArePairs : NetState → ℕ → List EndPair → Type 0
+ArePairs opening workers pairs = (y o x : ℕ) → (shape opening).neighbour y o ≡ Some x
     → (y % workers ≡ x % workers → ⊥) →
-    let line = line_at lines (links_before opening.mesh y o) in
+    let pair = pair_at pairs (links_before opening.mesh y o) in
     AreEndsMade opening.mesh opening.channels opening.depth y o (past_of (shape opening) (network_of opening) y o x)
-    line.out line.into
+    pair.out pair.into
 
 -- of each link the end that is the worker's, whatever has gone over it since
 abbrev pub HasItsEnds : PartState → Type 0
 HasItsEnds p = (y o x : ℕ) → (shape p.opening).neighbour y o ≡ Some x →
-    IsSameEnd (end_made (owns p y) (owns p x) (line_at p.lines (links_before p.opening.mesh y o))) (end_of p y o)
+    IsSameEnd (end_made (owns p y) (owns p x) (pair_at p.pairs (links_before p.opening.mesh y o))) (end_of p y o)
 
 -- the network has this configuration
 pub record HasConfigOf (opening net : NetState) : Type 0 where
@@ -68,13 +68,13 @@ pub record IsPart (p : PartState) : Type 0 where
   pub opened : IsNet p.opening
   pub config : HasConfigOf p.opening p.net
   pub worker : p.net.own.worker < p.net.own.workers
-  pub made : AreLines p.opening p.net.own.workers p.lines
+  pub made : ArePairs p.opening p.net.own.workers p.pairs
   pub all_ends : length p.ends ≡ link_count p.net.mesh
   pub ends : HasItsEnds p
   pub holds : HasPart (shape p.opening) (network_of p.opening) (owns p) (part_network p) (taken_by p) (returned_to p)
 
--- the configuration, the nodes that are owned, the network at the split and its lines are the same
+-- the configuration, the nodes that are owned, the network at the split and its pairs of ends are the same
 pub record IsSamePart (old new : PartState) : Type 0 where
   pub config : IsSameConfig old.net new.net
   pub opening : new.opening ≡ old.opening
-  pub lines : new.lines ≡ old.lines
+  pub pairs : new.pairs ≡ old.pairs

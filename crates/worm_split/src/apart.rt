@@ -5,7 +5,7 @@ ghost use Rattle.worm_region.specs.Owned.{owned_by};
 ghost use Rattle.worm_split.specs.Apart.{ArePaired, Fits, IsExchanged};
 ghost use Rattle.worm_split.specs.Exchange.{EndsSwapped, LinksSwapped, NodesSwapped, SwapsEnd, SwapsLink, SwapsNode};
 
-use crate::ends::{End, Line};
+use crate::ends::{End, EndPair};
 use std::marker::Model;
 use std::mem::swap;
 use worm_core::{Config, Inboxes, LinkState, Node, Owner};
@@ -22,7 +22,7 @@ pub struct TakenApart {
     pub(crate) links: Vec<LinkState>,
     pub(crate) inboxes: Inboxes,
     /// Both ends of each link between two workers, by the link's number.
-    pub(crate) lines: Vec<Line>,
+    pub(crate) pairs: Vec<EndPair>,
 }
 
 impl Model for TakenApart {
@@ -30,9 +30,9 @@ impl Model for TakenApart {
 
     ghost Value = { Apart };
 
-    ghost view = { λ k. taken_apart k.config k.ways.items k.nodes.items k.links.items k.lines.items };
+    ghost view = { λ k. taken_apart k.config k.ways.items k.nodes.items k.links.items k.pairs.items };
 
-    ghost invariant = { λ k. Fits (taken_apart k.config k.ways.items k.nodes.items k.links.items k.lines.items) };
+    ghost invariant = { λ k. Fits (taken_apart k.config k.ways.items k.nodes.items k.links.items k.pairs.items) };
 }
 
 pub(crate) fn owns(own: Owner, node: u8) -> bool
@@ -96,27 +96,27 @@ fn swap_links(
     }
 }
 
-fn swap_end(line: &mut Line, end: &mut End, near: bool, far: bool)
-    ensures { SwapsEnd near far line.old end.old line.new end.new }
+fn swap_end(pair: &mut EndPair, end: &mut End, near: bool, far: bool)
+    ensures { SwapsEnd near far pair.old end.old pair.new end.new }
 {
     if near && !far {
-        swap(&mut line.out, end);
+        swap(&mut pair.out, end);
     } else if far && !near {
-        swap(&mut line.into, end);
+        swap(&mut pair.into, end);
     }
 }
 
-fn swap_ends(lines: &mut Vec<Line>, ends: &mut Vec<End>, ways: &Vec<LinkEnds>, own: Owner)
+fn swap_ends(pairs: &mut Vec<EndPair>, ends: &mut Vec<End>, ways: &Vec<LinkEnds>, own: Owner)
     requires workers { 0 < own.workers }
-    requires length { length ends.old.items ≡ length lines.old.items }
-    requires ways { length ways.now.items ≡ length lines.old.items }
-    ensures { EndsSwapped own ways.now.items (length lines.old.items) lines.old.items ends.old.items lines.new.items
+    requires length { length ends.old.items ≡ length pairs.old.items }
+    requires ways { length ways.now.items ≡ length pairs.old.items }
+    ensures { EndsSwapped own ways.now.items (length pairs.old.items) pairs.old.items ends.old.items pairs.new.items
         ends.new.items }
 {
     for k in 0..ways.len() {
         let way = ways[k];
         swap_end(
-            &mut lines[k],
+            &mut pairs[k],
             &mut ends[k],
             owns(own, way.from),
             owns(own, way.to),
@@ -145,6 +145,6 @@ impl TakenApart {
     {
         swap_nodes(&mut self.nodes, nodes, own);
         swap_links(&mut self.links, links, &self.ways, own);
-        swap_ends(&mut self.lines, ends, &self.ways, own);
+        swap_ends(&mut self.pairs, ends, &self.ways, own);
     }
 }

@@ -21,7 +21,7 @@ pub enum End {
 
 /// Both ends of a link between two workers; of any other link two that are no ends.
 #[derive(Drop)]
-pub struct Line {
+pub struct EndPair {
     /// The end of the worker whose node the link leaves.
     pub out: End,
     /// The end of the worker whose node the link enters.

@@ -2,14 +2,14 @@
 
 ghost use Rattle.std.specs.Prelude.{◌≡◌, ◌<◌, ◌≤◌, ◌++◌, ◌∷◌, ◌%◌, ◌==◌, [], ℕ, false, length, true};
 ghost use Rattle.worm_core.specs.Headline.{DeliversInOrder};
-ghost use Rattle.worm_split.specs.Ends.{line_at};
+ghost use Rattle.worm_split.specs.Ends.{pair_at};
 ghost use Rattle.worm_split.specs.Apart.{ArePaired, IsPutBack, with_lists};
 ghost use Rattle.worm_split.specs.Joins.{AreEmptied, AreOfOne, AreParts, CreditsEmptied, FlitsEmptied, IsBetween};
 ghost use Rattle.worm_split.specs.Joins.{IsEmptied, IsGathered, IsJoinOf, IsLaterThan};
 ghost use Rattle.worm_split.specs.Splits.{part_at};
 
 use crate::apart::TakenApart;
-use crate::ends::{End, Line};
+use crate::ends::{End, EndPair};
 use crate::part::Part;
 use std::mem::replace;
 use std::sync::Wait;
@@ -59,11 +59,11 @@ fn empty_credits<R: Wait>(rt: &R, tx: CreditTx, rx: CreditRx, link: &mut LinkSta
     }
 }
 
-fn empty_line<R: Wait>(rt: &R, line: Line, link: &mut LinkState)
-    requires { AreOfOne line.out line.into }
-    ensures { IsEmptied line.out line.into link.old link.new }
+fn empty_pair<R: Wait>(rt: &R, pair: EndPair, link: &mut LinkState)
+    requires { AreOfOne pair.out pair.into }
+    ensures { IsEmptied pair.out pair.into link.old link.new }
 {
-    let Line { out, into } = line;
+    let EndPair { out, into } = pair;
     let End::Leaving(tx, back) = out else {
         return;
     };
@@ -74,19 +74,19 @@ fn empty_line<R: Wait>(rt: &R, line: Line, link: &mut LinkState)
     empty_credits(rt, give, back, link);
 }
 
-fn empty_between<R: Wait>(rt: &R, line: &mut Line, link: &mut LinkState, within: bool)
-    requires { within ≡ false → AreOfOne line.old.out line.old.into }
-    ensures between { within ≡ false → IsEmptied line.old.out line.old.into link.old link.new }
+fn empty_between<R: Wait>(rt: &R, pair: &mut EndPair, link: &mut LinkState, within: bool)
+    requires { within ≡ false → AreOfOne pair.old.out pair.old.into }
+    ensures between { within ≡ false → IsEmptied pair.old.out pair.old.into link.old link.new }
     ensures within { within ≡ true → link.new ≡ link.old }
 {
     if within {
         return;
     }
-    let none = Line {
+    let none = EndPair {
         out: End::Inner,
         into: End::Inner,
     };
-    empty_line(rt, replace(line, none), link);
+    empty_pair(rt, replace(pair, none), link);
 }
 
 fn is_within(way: LinkEnds, workers: usize) -> bool
@@ -112,17 +112,17 @@ impl TakenApart {
         self.exchange(&mut nodes, &mut links, &mut ends, own);
     }
 
-    fn empty_lines<R: Wait>(&mut self, rt: &R, workers: usize)
+    fn empty_pairs<R: Wait>(&mut self, rt: &R, workers: usize)
         requires workers { 0 < workers }
         requires queues { (k : ℕ) → IsBetween workers self.old.ways k →
-            AreOfOne (line_at self.old.lines k).out (line_at self.old.lines k).into }
-        ensures links { AreEmptied workers (length self.old.ways) self.old.ways self.old.lines self.old.net.links
+            AreOfOne (pair_at self.old.pairs k).out (pair_at self.old.pairs k).into }
+        ensures links { AreEmptied workers (length self.old.ways) self.old.ways self.old.pairs self.old.net.links
             self.new.net.links }
         ensures rest { self.new.net ≡ with_lists self.old.net self.old.net.nodes self.new.net.links }
     {
         for k in 0..self.ways.len() {
             let within = is_within(self.ways[k], workers);
-            empty_between(rt, &mut self.lines[k], &mut self.links[k], within);
+            empty_between(rt, &mut self.pairs[k], &mut self.links[k], within);
         }
     }
 }
@@ -138,7 +138,7 @@ fn gather(mut parts: Vec<Part>) -> TakenApart
         region,
         ends,
         opening: _,
-        lines: _,
+        pairs: _,
         kept,
     } = last;
     let Some(mut whole) = kept else {
@@ -152,7 +152,7 @@ fn gather(mut parts: Vec<Part>) -> TakenApart
             region,
             ends,
             opening: _,
-            lines: _,
+            pairs: _,
             kept: _,
         } = part;
         region.recall();
@@ -171,14 +171,14 @@ pub fn join<R: Wait>(rt: &R, parts: Vec<Part>) -> Net
 {
     let workers = parts.len();
     let mut whole = gather(parts);
-    whole.empty_lines(rt, workers);
+    whole.empty_pairs(rt, workers);
     let TakenApart {
         config,
         ways: _,
         nodes,
         links,
         inboxes,
-        lines: _,
+        pairs: _,
     } = whole;
     let lists = NetParts {
         config,

@@ -15,7 +15,7 @@ mod splitting;
 mod stop;
 mod turning;
 
-pub use ends::{End, Line};
+pub use ends::{End, EndPair};
 pub use joining::join;
 pub use part::Part;
 pub use splitting::split;

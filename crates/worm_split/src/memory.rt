@@ -11,9 +11,9 @@ ghost use Rattle.worm_region.specs.Parts.{IsConfigOf};
 ghost use Rattle.worm_split.specs.Ends.{AreEndsMade, IsLinkOf};
 ghost use Rattle.worm_split.specs.declared.ends.End.TheVariants.{Inner};
 ghost use Rattle.worm_split.specs.Apart.{AreWays};
-ghost use Rattle.worm_split.specs.Splits.{AreLinesMade, AreRooms, IsLineMade, IsSeat};
+ghost use Rattle.worm_split.specs.Splits.{ArePairsMade, AreRooms, IsPairMade, IsSeat};
 
-use crate::ends::{End, Line};
+use crate::ends::{End, EndPair};
 use crate::part::Part;
 use std::alloc::{AllocError, Global};
 use std::marker::Brand;
@@ -32,13 +32,13 @@ pub struct Seat {
     pub(crate) inboxes: Inboxes,
     pub(crate) ends: Vec<End>,
     pub(crate) opening: Snapshot<Net>,
-    pub(crate) lines: Snapshot<Vec<Line>>,
+    pub(crate) pairs: Snapshot<Vec<EndPair>>,
 }
 
 #[derive(Drop)]
 pub(crate) struct Rooms {
     pub(crate) ways: Vec<LinkEnds>,
-    pub(crate) lines: Vec<Line>,
+    pub(crate) pairs: Vec<EndPair>,
     pub(crate) seats: Vec<Seat>,
     pub(crate) parts: Vec<Part>,
 }
@@ -67,18 +67,18 @@ fn owners_of(classes: &ClassChannels) -> [u8; 8]
 }
 
 /// The two ends of a link, over which what is on it now is held to have gone before.
-fn make_line<B: Opening>(
+fn make_pair<B: Opening>(
     alloc: Global,
     net: &Net,
     way: LinkEnds,
     cfg: &LinkCfg,
-) -> Result<Line, AllocError>
+) -> Result<EndPair, AllocError>
     requires link { IsLinkOf net.now.mesh net.now.channels way.from way.out_port cfg.now }
     requires depth { cfg.now.depth ≡ net.now.depth }
     requires joined { Joins net.now.mesh way.from way.out_port way.to }
     requires past { B.past ≡ past_of (shape net.now) (network_of net.now) way.from way.out_port way.to }
-    ensures { IfOk result (λ line. AreEndsMade net.now.mesh net.now.channels net.now.depth way.from way.out_port
-        (past_of (shape net.now) (network_of net.now) way.from way.out_port way.to) line.out line.into) }
+    ensures { IfOk result (λ pair. AreEndsMade net.now.mesh net.now.channels net.now.depth way.from way.out_port
+        (past_of (shape net.now) (network_of net.now) way.from way.out_port way.to) pair.out pair.into) }
 {
     net.recall();
     let Ok((tx, rx)) = link_after::<B>(alloc, *cfg) else {
@@ -87,52 +87,52 @@ fn make_line<B: Opening>(
     let Ok((give, back)) = credit_line(alloc, *cfg) else {
         return Err(AllocError);
     };
-    Ok(Line {
+    Ok(EndPair {
         out: End::Leaving(tx, back),
         into: End::Entering(rx, give),
     })
 }
 
-fn make_line_of(
+fn make_pair_of(
     alloc: Global,
     net: &Net,
     way: LinkEnds,
     cfg: &LinkCfg,
     workers: u16,
-) -> Result<Line, AllocError>
+) -> Result<EndPair, AllocError>
     requires workers { 0 < workers }
     requires link { IsLinkOf net.now.mesh net.now.channels way.from way.out_port cfg.now }
     requires depth { cfg.now.depth ≡ net.now.depth }
     requires joined { Joins net.now.mesh way.from way.out_port way.to }
-    ensures { IfOk result (λ line. IsLineMade net.now workers way line) }
+    ensures { IfOk result (λ pair. IsPairMade net.now workers way pair) }
 {
     if u16::from(way.from) % workers == u16::from(way.to) % workers {
-        return Ok(Line {
+        return Ok(EndPair {
             out: End::Inner,
             into: End::Inner,
         });
     }
-    make_line::<Brand>(alloc, net, way, cfg)
+    make_pair::<Brand>(alloc, net, way, cfg)
 }
 
-fn make_lines(
+fn make_pairs(
     alloc: Global,
     net: &Net,
     config: &Config,
     mesh: &Mesh,
     ways: &Vec<LinkEnds>,
     workers: u16,
-) -> Result<Vec<Line>, AllocError>
+) -> Result<Vec<EndPair>, AllocError>
     requires workers { 0 < workers }
     requires mesh { mesh.now ≡ net.now.mesh }
     requires config { IsConfigOf net.now config.now }
     requires classes { AreChannels net.now.channels }
     requires ways { AreWays net.now.mesh ways.now.items }
-    ensures { IfOk result (λ lines. AreLinesMade net.now workers ways.now.items lines.items) }
+    ensures { IfOk result (λ pairs. ArePairsMade net.now workers ways.now.items pairs.items) }
 {
     let classes = ClassChannels::new(config.channels.as_slice());
     let owners = owners_of(&classes);
-    let mut lines = Vec::with_capacity(alloc, ways.len())?;
+    let mut pairs = Vec::with_capacity(alloc, ways.len())?;
     for k in 0..ways.len() {
         let way = ways[k];
         let cfg = LinkCfg {
@@ -143,9 +143,9 @@ fn make_lines(
             depth: config.depth,
             owners,
         };
-        lines.push(make_line_of(alloc, net, way, &cfg, workers)?)?;
+        pairs.push(make_pair_of(alloc, net, way, &cfg, workers)?)?;
     }
-    Ok(lines)
+    Ok(pairs)
 }
 
 /// Room in each worker's list of ends for 128 bytes that stay empty, so that no two workers write one cache line.
@@ -164,13 +164,13 @@ fn make_ends(alloc: Global, count: u16) -> Result<Vec<End>, AllocError>
 fn make_seat(
     alloc: Global,
     net: &Net,
-    lines: &Vec<Line>,
+    pairs: &Vec<EndPair>,
     count: u16,
     room: u16,
 ) -> Result<Seat, AllocError>
     requires count { count ≡ link_count net.now.mesh }
     requires room { room ≡ sum net.now.channels * net.now.depth }
-    ensures { IfOk result (λ seat. IsSeat net.now lines.now.items seat) }
+    ensures { IfOk result (λ seat. IsSeat net.now pairs.now.items seat) }
 {
     net.recall();
     let config = net.config();
@@ -185,26 +185,26 @@ fn make_seat(
         inboxes,
         ends,
         opening: Snapshot::of(net),
-        lines: Snapshot::of(lines),
+        pairs: Snapshot::of(pairs),
     })
 }
 
 fn make_seats(
     alloc: Global,
     net: &Net,
-    lines: &Vec<Line>,
+    pairs: &Vec<EndPair>,
     count: u16,
     room: u16,
     workers: u16,
 ) -> Result<Vec<Seat>, AllocError>
     requires count { count ≡ link_count net.now.mesh }
     requires room { room ≡ sum net.now.channels * net.now.depth }
-    ensures all { IfOk result (λ seats. All (IsSeat net.now lines.now.items) seats.items) }
+    ensures all { IfOk result (λ seats. All (IsSeat net.now pairs.now.items) seats.items) }
     ensures number { IfOk result (λ seats. length seats.items ≡ workers) }
 {
     let mut seats = Vec::with_capacity(alloc, usize::from(workers))?;
     for _worker in 0..workers {
-        seats.push(make_seat(alloc, net, lines, count, room)?)?;
+        seats.push(make_seat(alloc, net, pairs, count, room)?)?;
     }
     Ok(seats)
 }
@@ -219,14 +219,14 @@ pub(crate) fn make_rooms(alloc: Global, net: &Net, workers: u16) -> Result<Rooms
         unreachable!()
     };
     let ways = make_ways(alloc, &mesh)?;
-    let lines = make_lines(alloc, net, &config, &mesh, &ways, workers)?;
+    let pairs = make_pairs(alloc, net, &config, &mesh, &ways, workers)?;
     let classes = ClassChannels::new(config.channels.as_slice());
     let room = u16::from(classes.total()) * u16::from(config.depth);
-    let seats = make_seats(alloc, net, &lines, mesh.links(), room, workers)?;
+    let seats = make_seats(alloc, net, &pairs, mesh.links(), room, workers)?;
     let parts = Vec::with_capacity(alloc, usize::from(workers))?;
     Ok(Rooms {
         ways,
-        lines,
+        pairs,
         seats,
         parts,
     })

@@ -1,7 +1,7 @@
 //! What one worker has of a network: its own nodes, and its ends of the links that it shares with other workers.
 
 use crate::apart::TakenApart;
-use crate::ends::{End, Line};
+use crate::ends::{End, EndPair};
 use std::marker::Model;
 use std::snapshot::Snapshot;
 use worm_core::{Net, Region};
@@ -16,7 +16,7 @@ pub struct Part {
     /// The network that was split.
     pub(crate) opening: Snapshot<Net>,
     /// Both ends of each link, as they were made.
-    pub(crate) lines: Snapshot<Vec<Line>>,
+    pub(crate) pairs: Snapshot<Vec<EndPair>>,
     /// The network taken apart, which the last worker keeps till it is joined.
     pub(crate) kept: Option<TakenApart>,
 }
@@ -27,8 +27,8 @@ impl Model for Part {
 
     ghost Value = { PartState };
 
-    ghost view = { λ p. part_state p.region p.ends.items p.opening.value p.lines.value.items };
+    ghost view = { λ p. part_state p.region p.ends.items p.opening.value p.pairs.value.items };
 
-    ghost invariant = { λ p. IsPart (part_state p.region p.ends.items p.opening.value p.lines.value.items) ×
+    ghost invariant = { λ p. IsPart (part_state p.region p.ends.items p.opening.value p.pairs.value.items) ×
         IsKept p.opening.value p.region.own p.kept };
 }

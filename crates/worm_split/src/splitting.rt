@@ -8,7 +8,7 @@ ghost use Rattle.worm_split.specs.Apart.{IsKept};
 ghost use Rattle.worm_split.specs.Splits.{AreSeats, IsOpened, IsSplitOf, seat_state};
 
 use crate::apart::TakenApart;
-use crate::ends::Line;
+use crate::ends::EndPair;
 use crate::memory::{Rooms, Seat, make_rooms};
 use crate::part::Part;
 use std::alloc::Global;
@@ -28,7 +28,7 @@ fn part_of(seat: Seat, own: Owner, kept: Option<TakenApart>) -> Part
         inboxes,
         ends,
         opening,
-        lines,
+        pairs,
     } = seat;
     let parts = NetParts {
         config,
@@ -40,7 +40,7 @@ fn part_of(seat: Seat, own: Owner, kept: Option<TakenApart>) -> Part
         region: Region::from_parts(parts, own),
         ends,
         opening,
-        lines,
+        pairs,
         kept,
     }
 }
@@ -51,12 +51,12 @@ fn deal(
     mut parts: Vec<Part>,
     workers: u16,
     opening: &Snapshot<Net>,
-    lines: &Snapshot<Vec<Line>>,
+    pairs: &Snapshot<Vec<EndPair>>,
 ) -> Vec<Part>
     requires workers { (0 < workers) × (workers ≤ 16) }
     requires net { IsNet opening.now.value }
-    requires whole { IsOpened opening.now.value workers lines.now.value.items whole }
-    requires seats { AreSeats opening.now.value lines.now.value.items workers seats.items parts.items (vec_capacity
+    requires whole { IsOpened opening.now.value workers pairs.now.value.items whole }
+    requires seats { AreSeats opening.now.value pairs.now.value.items workers seats.items parts.items (vec_capacity
         parts) }
     ensures { IsSplitOf opening.now.value workers result.items }
 {
@@ -98,12 +98,12 @@ pub fn split(alloc: Global, net: Net, workers: usize) -> Result<Vec<Part>, (Net,
     };
     let Rooms {
         ways,
-        lines,
+        pairs,
         seats,
         parts,
     } = rooms;
     let opening = Snapshot::of(&net);
-    let made = Snapshot::of(&lines);
+    let made = Snapshot::of(&pairs);
     let NetParts {
         config,
         nodes,
@@ -116,7 +116,7 @@ pub fn split(alloc: Global, net: Net, workers: usize) -> Result<Vec<Part>, (Net,
         nodes,
         links,
         inboxes,
-        lines,
+        pairs,
     };
     Ok(deal(whole, seats, parts, workers as u16, &opening, &made))
 }

@@ -8,8 +8,8 @@ loop-k-preserved c =
     let ways = c.requires.ways in
     ends_further c.args.own c.args.ways.now.items s.k c.index-way.result.now
     (omega arith) c.index-way.ensures c.owns.result
-    c.owns-in-loop-k.result c.owns.ensures c.owns-in-loop-k.ensures c.args.lines.now.items c.args.ends.now.items
-    s.lines.items s.ends.items
-    c.index_mut.result.now c.index_mut-in-loop-k.result.now c.swap_end.new.line c.swap_end.new.end s.invariant
+    c.owns-in-loop-k.result c.owns.ensures c.owns-in-loop-k.ensures c.args.pairs.now.items c.args.ends.now.items
+    s.pairs.items s.ends.items
+    c.index_mut.result.now c.index_mut-in-loop-k.result.now c.swap_end.new.pair c.swap_end.new.end s.invariant
     (omega arith)
     c.index_mut.ensures.value c.index_mut-in-loop-k.ensures.value c.swap_end.ensures

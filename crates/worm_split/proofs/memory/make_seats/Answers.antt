@@ -10,7 +10,7 @@ loop-worker-preserved c =
     let s = c.loop-worker in
     let seat = c.in_ok-make_seat.field-0 in
     let items = c.in_ok-push.ensures.items in
-    let P = IsSeat c.args.net.now c.args.lines.now.items in
+    let P = IsSeat c.args.net.now c.args.pairs.now.items in
     record {
       all = subst (λ (l : List Seat). All P l) (sym items)
           (All-push P s.seats.items seat s.invariant.all c.in_ok-make_seat.ensures);

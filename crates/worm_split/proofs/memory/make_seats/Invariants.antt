@@ -5,6 +5,6 @@ use Rattle.worm_split.proofs.memory.make_seats.Given as goal
 
 abbrev pub invariant-loop-worker : goal.invariant-loop-worker
 invariant-loop-worker l = record {
-  all : All (IsSeat l.net l.lines.items) l.seats.items;
+  all : All (IsSeat l.net l.pairs.items) l.seats.items;
   count : length l.seats.items ≡ l._worker;
 }

@@ -8,7 +8,7 @@ use Rattle.worm_split.proofs.splitting.deal.Goals.{After-exchange, After-exchang
 dealt : (c : After-exchange) →
     let s = c.loop-worker in
     let x = c.exchange.new in
-    Deals c.args.opening.now.value c.args.workers s.worker c.args.lines.now.value.items x.self c.pop.new.self.items
+    Deals c.args.opening.now.value c.args.workers s.worker c.args.pairs.now.value.items x.self c.pop.new.self.items
     s.parts.items (vec_capacity s.parts) (dealt_state c.in-Some.seat
     (record { worker = s.worker; workers = c.args.workers }) x.nodes.items x.links.items x.ends.items)
 dealt c =
@@ -41,7 +41,7 @@ dealt_last : (c : After-exchange-2) →
     let s = c.loop-worker in
     let x = c.exchange-2.new in
     let W = c.args.workers in
-    Deals c.args.opening.now.value W (W - 1) c.args.lines.now.value.items x.self c.pop-2.new.self.items
+    Deals c.args.opening.now.value W (W - 1) c.args.pairs.now.value.items x.self c.pop-2.new.self.items
     s.parts.items (vec_capacity s.parts) (dealt_state c.in-Some-pop.seat
     (record { worker = W - 1; workers = W }) x.nodes.items x.links.items x.ends.items)
 dealt_last c =

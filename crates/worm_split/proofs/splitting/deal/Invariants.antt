@@ -3,5 +3,5 @@ use Rattle.worm_split.proofs.DealtSoFar.{DealSoFar}
 use Rattle.worm_split.proofs.splitting.deal.Given as goal
 
 abbrev pub invariant-loop-worker : goal.invariant-loop-worker
-invariant-loop-worker l = DealSoFar l.opening.value l.workers l.lines.value.items l.worker l.whole l.seats.items
+invariant-loop-worker l = DealSoFar l.opening.value l.workers l.pairs.value.items l.worker l.whole l.seats.items
     l.parts.items (vec_capacity l.parts)

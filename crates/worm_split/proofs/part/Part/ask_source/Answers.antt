@@ -10,7 +10,7 @@ use Rattle.worm_split.proofs.part.Part.ask_source.Goals as goal
 pub invariant_of-self : goal.invariant_of-self
 invariant_of-self c =
     let i = c.self.inside in
-    let p : PartState = part_state i.region i.ends.items i.opening.value i.lines.value.items in
+    let p : PartState = part_state i.region i.ends.items i.opening.value i.pairs.value.items in
     let here : owned p.net c.args.node ≡ true = (λ t. owned (c.self.view_is t).net c.args.node) ∙ c.requires.own in
     let kept = keeps_asked p c.self.invariant.0 c.args.node here c.args.entries.now p.net c.ask_source.new.self
     (result_err c.ask_source.result) (inside_now p c.self.invariant.0) c.ask_source.ensures.does.exact in (

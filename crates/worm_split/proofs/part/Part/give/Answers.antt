@@ -25,7 +25,7 @@ links_beyond-links-requires g c =
 -- the link into the port
 entering : (g : given.Over) (c : After-links_beyond-links g)
     → let i = c.self.inside in
-    HasLinks (part_state i.region i.ends.items i.opening.value i.lines.value.items) c.args.node c.args.port
+    HasLinks (part_state i.region i.ends.items i.opening.value i.pairs.value.items) c.args.node c.args.port
     c.links_beyond-links.result
 entering g c =
     record { part = c.self.invariant.0; framed = c.recall.ensures.framed; at = c.links_beyond-links.ensures }
@@ -40,7 +40,7 @@ told : (g : given.Over) (c : goal.After-is_entering g)
     → IsTrue c.is_entering.result ↔ ComesBy c.args.self.now c.args.node c.args.port
 told g c =
     let i = c.self.inside in
-    let p : PartState = part_state i.region i.ends.items i.opening.value i.lines.value.items in
+    let p : PartState = part_state i.region i.ends.items i.opening.value i.pairs.value.items in
     let links = c.links_beyond-links.result in
     let has : HasLinks p c.args.node c.args.port links =
     record { part = c.self.invariant.0; framed = c.recall.ensures.framed; at = c.links_beyond-links.ensures } in

@@ -13,7 +13,7 @@ use Rattle.worm_split.proofs.part.Part.give_across.Given as given
 pub index_mut-requires : goal.index_mut-requires
 index_mut-requires g c =
     let i = c.self.inside in
-    let p : PartState = part_state i.region i.ends.items i.opening.value i.lines.value.items in
+    let p : PartState = part_state i.region i.ends.items i.opening.value i.pairs.value.items in
     let has : HasLinks p c.args.node c.args.port c.links_beyond-links.result =
     record { part = c.self.invariant.0; framed = c.recall.ensures.framed; at = c.links_beyond-links.ensures } in
     omega (arith, into_end_bound has c.from.result c.from.ensures)
@@ -21,7 +21,7 @@ index_mut-requires g c =
 -- the credit that is given, and its link
 giving : (g : given.Over) (c : After-index_mut g)
     → let i = c.self.inside in
-    IsGiving (part_state i.region i.ends.items i.opening.value i.lines.value.items) c.args.node c.args.port c.args.vc
+    IsGiving (part_state i.region i.ends.items i.opening.value i.pairs.value.items) c.args.node c.args.port c.args.vc
     c.links_beyond-links.result c.from.result c.index_mut.result.now
 giving g c =
     let back = sym c.self.view_is in

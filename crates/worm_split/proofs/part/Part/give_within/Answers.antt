@@ -12,7 +12,7 @@ use Rattle.worm_split.proofs.part.Part.give_within.Goals as goal
 pub give_owed-requires-clause-within : goal.give_owed-requires-clause-within
 give_owed-requires-clause-within c =
     let i = c.self.inside in
-    let p : PartState = part_state i.region i.ends.items i.opening.value i.lines.value.items in
+    let p : PartState = part_state i.region i.ends.items i.opening.value i.pairs.value.items in
     let here : owned p.net c.args.node ≡ true = (λ t. owned (c.self.view_is t).net c.args.node) ∙ c.requires.own in
     let stays = subst (λ (q : PartState). ComesBy q c.args.node c.args.port
     → ⊥) (sym c.self.view_is) c.requires.stays in
@@ -21,7 +21,7 @@ give_owed-requires-clause-within c =
 pub invariant_of-self : goal.invariant_of-self
 invariant_of-self c =
     let i = c.self.inside in
-    let p : PartState = part_state i.region i.ends.items i.opening.value i.lines.value.items in
+    let p : PartState = part_state i.region i.ends.items i.opening.value i.pairs.value.items in
     let here : owned p.net c.args.node ≡ true = (λ t. owned (c.self.view_is t).net c.args.node) ∙ c.requires.own in
     let stays = subst (λ (q : PartState). ComesBy q c.args.node c.args.port
     → ⊥) (sym c.self.view_is) c.requires.stays in

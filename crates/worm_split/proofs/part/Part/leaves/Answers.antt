@@ -9,7 +9,7 @@ use Rattle.worm_split.proofs.part.Part.leaves.Goals.{In-Some}
 -- the link out of the port
 leaving : (c : In-Some)
     → let i = c.self.inside in
-    HasLinks (part_state i.region i.ends.items i.opening.value i.lines.value.items) c.args.node c.args.out
+    HasLinks (part_state i.region i.ends.items i.opening.value i.pairs.value.items) c.args.node c.args.out
     c.in-Some.links
 leaving c = record {
   part = c.self.invariant.0;
@@ -24,7 +24,7 @@ index-requires c =
 pub returns : goal.returns
 returns c =
     let i = c.self.inside in
-    let p = part_state i.region i.ends.items i.opening.value i.lines.value.items in
+    let p = part_state i.region i.ends.items i.opening.value i.pairs.value.items in
     let looked = out_looked_up (leaving (goal.at.returns c).In-Some) c.from.result c.index.result.now c.from.ensures
     c.index.ensures in
     rw (← c.self.view_is) (leaves_means (end_of p c.args.node c.args.out) c.is_leaving.result

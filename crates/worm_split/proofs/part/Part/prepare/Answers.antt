@@ -10,7 +10,7 @@ use Rattle.worm_split.proofs.part.Part.prepare.Goals as goal
 pub invariant_of-self : goal.invariant_of-self
 invariant_of-self c =
     let i = c.self.inside in
-    let p : PartState = part_state i.region i.ends.items i.opening.value i.lines.value.items in
+    let p : PartState = part_state i.region i.ends.items i.opening.value i.pairs.value.items in
     let here : owned p.net c.args.node ≡ true = (λ t. owned (c.self.view_is t).net c.args.node) ∙ c.requires.own in
     let there : c.args.node < node_count p.net.mesh =
     subst (λ (q : PartState). c.args.node < node_count q.net.mesh) (sym c.self.view_is) c.requires.node in

@@ -10,7 +10,7 @@ use Rattle.worm_split.proofs.part.Part.pull_credit.Goals.{In-Some, In-Some-pop_c
 -- the links of the port
 linked : (c : In-Some)
     → let i = c.self.inside in
-    HasLinks (part_state i.region i.ends.items i.opening.value i.lines.value.items) c.args.node c.args.port
+    HasLinks (part_state i.region i.ends.items i.opening.value i.pairs.value.items) c.args.node c.args.port
     c.in-Some.links
 linked c = record {
   part = c.self.invariant.0;
@@ -31,7 +31,7 @@ index_mut-requires c =
 -- the credit that came off
 in_hand : (c : In-Some-pop_credit)
     → let i = c.self.inside in
-    CreditInHand (part_state i.region i.ends.items i.opening.value i.lines.value.items) c.args.node c.args.port
+    CreditInHand (part_state i.region i.ends.items i.opening.value i.pairs.value.items) c.args.node c.args.port
     c.in-Some-pop_credit.vc c.in-Some.links c.from-number.result c.pop_credit.new.end
 in_hand c = credit_taken (record {
   part = c.self.invariant.0;

@@ -10,7 +10,7 @@ use Rattle.worm_split.proofs.part.Part.pull_flit.Goals.{In-Some, In-Some-pop_fli
 -- the links of the port
 linked : (c : In-Some)
     → let i = c.self.inside in
-    HasLinks (part_state i.region i.ends.items i.opening.value i.lines.value.items) c.args.node c.args.port
+    HasLinks (part_state i.region i.ends.items i.opening.value i.pairs.value.items) c.args.node c.args.port
     c.in-Some.links
 linked c = record {
   part = c.self.invariant.0;
@@ -31,7 +31,7 @@ index_mut-requires c =
 -- the flit that came off
 in_hand : (c : In-Some-pop_flit)
     → let i = c.self.inside in
-    FlitInHand (part_state i.region i.ends.items i.opening.value i.lines.value.items) c.args.node c.args.port
+    FlitInHand (part_state i.region i.ends.items i.opening.value i.pairs.value.items) c.args.node c.args.port
     c.in-Some-pop_flit.flit c.in-Some.links c.from-number.result c.pop_flit.new.end
 in_hand c = flit_off (record {
   part = c.self.invariant.0;

@@ -14,7 +14,7 @@ use Rattle.worm_split.proofs.part.Part.send_across.Given as given
 -- the flit that leaves, and its link
 going : (g : given.Over) (c : After-index_mut g)
     → let i = c.self.inside in
-    IsGoing (part_state i.region i.ends.items i.opening.value i.lines.value.items) c.args.node c.args.port c.args.vc
+    IsGoing (part_state i.region i.ends.items i.opening.value i.pairs.value.items) c.args.node c.args.port c.args.vc
     c.args.out c.args.flit c.links_beyond-links.result c.from.result c.index_mut.result.now
 going g c =
     let back = sym c.self.view_is in

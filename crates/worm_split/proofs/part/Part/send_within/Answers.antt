@@ -13,7 +13,7 @@ use Rattle.worm_split.proofs.part.Part.send_within.Goals as goal
 pub send-requires-clause-within : goal.send-requires-clause-within
 send-requires-clause-within c =
     let i = c.self.inside in
-    let p : PartState = part_state i.region i.ends.items i.opening.value i.lines.value.items in
+    let p : PartState = part_state i.region i.ends.items i.opening.value i.pairs.value.items in
     let here : owned p.net c.args.node ≡ true = (λ t. owned (c.self.view_is t).net c.args.node) ∙ c.requires.own in
     let stays = subst (λ (q : PartState). StaysWithin q c.args.node
     (leaving (router_at q.net c.args.node) c.args.port c.args.vc)) (sym c.self.view_is) c.requires.stays in
@@ -23,7 +23,7 @@ send-requires-clause-within c =
 pub invariant_of-self : goal.invariant_of-self
 invariant_of-self c =
     let i = c.self.inside in
-    let p : PartState = part_state i.region i.ends.items i.opening.value i.lines.value.items in
+    let p : PartState = part_state i.region i.ends.items i.opening.value i.pairs.value.items in
     let here : owned p.net c.args.node ≡ true = (λ t. owned (c.self.view_is t).net c.args.node) ∙ c.requires.own in
     let stays = subst (λ (q : PartState). StaysWithin q c.args.node
     (leaving (router_at q.net c.args.node) c.args.port c.args.vc)) (sym c.self.view_is) c.requires.stays in

@@ -7,7 +7,7 @@ use Rattle.worm_region.proofs.FrameKept.{framed_mesh}
 use Rattle.worm_theory.proofs.Regions.{past_worms}
 use Rattle.worm_split.proofs.Gathered.{net_holds}
 use Rattle.worm_split.proofs.MadeSoFar.{linked_of}
-use Rattle.worm_split.proofs.memory.make_line.Goals as goal
+use Rattle.worm_split.proofs.memory.make_pair.Goals as goal
 
 pub link_after-requires-clause-past : goal.link_after-requires-clause-past
 link_after-requires-clause-past g c = λ v.

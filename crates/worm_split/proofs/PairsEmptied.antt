@@ -9,22 +9,22 @@ use Rattle.worm_mesh.specs.declared.mesh.LinkEnds.{LinkEnds}
 use Rattle.worm_theory.proofs.Places.{number_cases}
 use Rattle.worm_region.specs.State.{NetState, IsFramed}
 use Rattle.worm_wires.specs.Links.{LinkView, blank_link}
-use Rattle.worm_split.specs.declared.ends.Line.{Line}
+use Rattle.worm_split.specs.declared.ends.EndPair.{EndPair}
 use Rattle.worm_split.specs.declared.ends.End.{End}
 use Rattle.worm_split.specs.declared.ends.End.TheVariants.{Inner, Leaving, Entering}
 use Rattle.worm_split.specs.Apart.{Apart, Fits, with_lists}
-use Rattle.worm_split.specs.Ends.{line_at, no_line}
+use Rattle.worm_split.specs.Ends.{pair_at, no_pair}
 use Rattle.worm_split.specs.Exchange.{way_at}
 use Rattle.worm_split.proofs.Exchanged.{framed_with}
 use Rattle.worm_split.proofs.Gathered.{not_same}
 use Rattle.worm_split.specs.Joins.{AreEmptied, AreOfOne, IsBetween, IsEmptied}
 
-pub record LinesSoFar (workers count : ℕ) (old new : Apart) : Type 0 where
-  pub emptied : AreEmptied workers count old.ways old.lines old.net.links new.net.links
+pub record PairsSoFar (workers count : ℕ) (old new : Apart) : Type 0 where
+  pub emptied : AreEmptied workers count old.ways old.pairs old.net.links new.net.links
   pub ahead : (k : ℕ) → count ≤ k → slice_index_or new.net.links k blank_link ≡ slice_index_or old.net.links k
       blank_link
-  pub lines_ahead : (k : ℕ) → count ≤ k → line_at new.lines k ≡ line_at old.lines k
-  pub lines_length : length new.lines ≡ length old.lines
+  pub pairs_ahead : (k : ℕ) → count ≤ k → pair_at new.pairs k ≡ pair_at old.pairs k
+  pub pairs_length : length new.pairs ≡ length old.pairs
   pub ways : new.ways ≡ old.ways
   pub rest : new.net ≡ with_lists old.net old.net.nodes new.net.links
 
@@ -38,7 +38,7 @@ emptied_room (Entering rx give) into a b h = ap (λ (l : LinkView). l.room) h
 
 -- and so the network of the lists its shape
 pub emptied_framed : (workers : ℕ) (old : Apart) (links : List LinkView) → Fits old
-    → AreEmptied workers (length old.ways) old.ways old.lines old.net.links links
+    → AreEmptied workers (length old.ways) old.ways old.pairs old.net.links links
     → IsFramed (with_lists old.net old.net.nodes links)
 emptied_framed workers old links fits emptied =
     let ways = fits.ways.all in
@@ -52,25 +52,25 @@ emptied_framed workers old links fits emptied =
     framed_with old.net old.net.nodes links fits.framed refl emptied.same_length fits.framed.each_node
     (λ k there. let was = fits.framed.rooms k there in let same = room k there in omega arith)
 
-module _ (workers k : ℕ) (old now : Apart) (fits : Fits old) (so_far : LinesSoFar workers k old now) (way : LinkEnds)
-    (line new_line : Line) (link new_link : LinkView) (inside : Bool) (there : k < length old.ways)
-    (way_is : way ≡ slice_index_or now.ways k way) (line_is : line ≡ slice_index_or now.lines k line)
+module _ (workers k : ℕ) (old now : Apart) (fits : Fits old) (so_far : PairsSoFar workers k old now) (way : LinkEnds)
+    (pair new_pair : EndPair) (link new_link : LinkView) (inside : Bool) (there : k < length old.ways)
+    (way_is : way ≡ slice_index_or now.ways k way) (pair_is : pair ≡ slice_index_or now.pairs k pair)
     (link_is : link ≡ slice_index_or now.net.links k link)
     (inside_is : inside ≡ (way.from % workers == way.to % workers)) where
   ways_long : length old.ways ≡ length old.net.links
   ways_long = fits.ways.all ∙ sym fits.framed.all_links
 
-  lines_long : length old.ways ≡ length old.lines
-  lines_long = fits.ways.all ∙ sym fits.all_lines
+  pairs_long : length old.ways ≡ length old.pairs
+  pairs_long = fits.ways.all ∙ sym fits.all_pairs
 
   way_read : way ≡ way_at old.ways k
   way_read = get_or_read old.ways k way there (way_is ∙ ap (λ (l : List LinkEnds). slice_index_or l k way)
       so_far.ways) _
 
-  line_read : line ≡ line_at old.lines k
-  line_read =
-      let long = so_far.lines_length in
-      get_or_read now.lines k line (omega arith) line_is no_line ∙ so_far.lines_ahead k (omega arith)
+  pair_read : pair ≡ pair_at old.pairs k
+  pair_read =
+      let long = so_far.pairs_length in
+      get_or_read now.pairs k pair (omega arith) pair_is no_pair ∙ so_far.pairs_ahead k (omega arith)
 
   link_read : link ≡ slice_index_or old.net.links k blank_link
   link_read =
@@ -82,9 +82,9 @@ module _ (workers k : ℕ) (old now : Apart) (fits : Fits old) (so_far : LinesSo
 
   -- the ends of a link between two workers are of one queue
   pub one_queue : ((j : ℕ) → IsBetween workers old.ways j
-      → AreOfOne (line_at old.lines j).out (line_at old.lines j).into)
-      → inside ≡ false → AreOfOne line.out line.into
-  one_queue queues apart = subst (λ (l : Line). AreOfOne l.out l.into) (sym line_read)
+      → AreOfOne (pair_at old.pairs j).out (pair_at old.pairs j).into)
+      → inside ≡ false → AreOfOne pair.out pair.into
+  one_queue queues apart = subst (λ (l : EndPair). AreOfOne l.out l.into) (sym pair_read)
       (queues k (λ e. let yes : ((way_at old.ways k).from % workers ==
       (way_at old.ways k).to % workers) ≡ true = eq-eqb _ _ e in
       let no = sym inside_read ∙ apart in cc))
@@ -94,13 +94,13 @@ module _ (workers k : ℕ) (old now : Apart) (fits : Fits old) (so_far : LinesSo
   more_links = slice_set now.net.links k new_link
 
   abbrev pub more : Apart
-  more = record now { net = with_lists now.net now.net.nodes more_links; lines = slice_set now.lines k new_line }
+  more = record now { net = with_lists now.net now.net.nodes more_links; pairs = slice_set now.pairs k new_pair }
 
-  pub lines_further : (inside ≡ false → IsEmptied line.out line.into link new_link) → (inside ≡ true → new_link ≡ link)
-      → LinesSoFar workers (k + 1) old more
-  lines_further between within =
+  pub pairs_further : (inside ≡ false → IsEmptied pair.out pair.into link new_link) → (inside ≡ true → new_link ≡ link)
+      → PairsSoFar workers (k + 1) old more
+  pairs_further between within =
       let long = so_far.emptied.same_length in
-      let lines_now = so_far.lines_length in
+      let pairs_now = so_far.pairs_length in
       let here : slice_index_or more_links k blank_link ≡ new_link =
       get_or-set_same now.net.links k new_link blank_link (omega arith) in
       let other : (j : ℕ) → j ≢ k → slice_index_or more_links j blank_link ≡ slice_index_or now.net.links j blank_link
@@ -109,15 +109,15 @@ module _ (workers k : ℕ) (old now : Apart) (fits : Fits old) (so_far : LinesSo
         emptied = record {
           same_length = length-set now.net.links k new_link ∙ long;
           done = λ j below apart. elim (cases_lt j k) [
-            | inl lt ↦ subst (λ (l : LinkView). IsEmptied (line_at old.lines j).out
-                (line_at old.lines j).into (slice_index_or old.net.links j blank_link) l)
+            | inl lt ↦ subst (λ (l : LinkView). IsEmptied (pair_at old.pairs j).out
+                (pair_at old.pairs j).into (slice_index_or old.net.links j blank_link) l)
                 (sym (other j (λ e. omega arith))) (so_far.emptied.done j lt apart)
             | inr ge ↦
                 let same : j ≡ k = omega arith in
                 let no : inside ≡ false = inside_read ∙ not_same _ _ (subst (λ
                 (i : ℕ). IsBetween workers old.ways i) same apart) in
                 let did = between no in
-                rw same (rw here (rw (← line_read, ← link_read) did))
+                rw same (rw here (rw (← pair_read, ← link_read) did))
           ];
           within = λ j same. elim (cases_eq j k) [
             | inl at ↦
@@ -128,9 +128,9 @@ module _ (workers k : ℕ) (old now : Apart) (fits : Fits old) (so_far : LinesSo
           ];
         };
         ahead = λ j past. other j (λ e. omega arith) ∙ so_far.ahead j (omega arith);
-        lines_ahead = λ j past.
-            get_or-set_other now.lines k j new_line no_line (λ e. omega arith) ∙ so_far.lines_ahead j (omega arith);
-        lines_length = length-set now.lines k new_line ∙ lines_now;
+        pairs_ahead = λ j past.
+            get_or-set_other now.pairs k j new_pair no_pair (λ e. omega arith) ∙ so_far.pairs_ahead j (omega arith);
+        pairs_length = length-set now.pairs k new_pair ∙ pairs_now;
         ways = so_far.ways;
         rest = ap (λ (s : NetState). with_lists s s.nodes more_links) so_far.rest;
       }
