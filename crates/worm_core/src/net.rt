@@ -23,6 +23,12 @@ use worm_region::{Fabric, Region};
 use worm_term::{Sink, Source};
 
 /// A sound network.
+///
+/// ```text
+/// let mut net = Net::new(alloc, &config)?;
+/// net.turn(0, &script)?;
+/// let arrived = net.delivered(5); // the flits that node 5 was delivered, in order
+/// ```
 pub struct Net {
     region: Region,
 }

@@ -15,7 +15,7 @@ pub struct Config {
     pub radices: ArrayVec<u8, 3>,
     /// How many flits each buffer holds, 1 to 16.
     pub depth: u8,
-    /// The names of the message classes, 1 to 4 of them, no two the same.
+    /// The names of the message classes, 1 to 4 of them. A text in which two are the same is refused; here none looks.
     pub classes: ArrayVec<Name, 4>,
     /// How many channels each class owns on every link, one number for each class, each 1 to 8, at most 8 in all.
     pub channels: ArrayVec<u8, 4>,

@@ -75,7 +75,7 @@ pub fn push_flit<R: Wait>(rt: &R, end: &mut End, flit: Flit) -> bool
     }
 }
 
-/// Gives a credit by the end. False where the line is full, or no credits go by it; then nothing changed.
+/// Gives a credit by the end. False where the credit line is full, or no credits go by it; then nothing changed.
 pub fn push_credit<R: Wait>(rt: &R, end: &mut End, vc: u8) -> bool
     requires { MayGive end.old vc }
     ensures { CreditPushed end.old vc result end.new }
