@@ -5,8 +5,7 @@ ghost use Rattle.worm_flit.specs.Channels.{AreChannels, class_bits, first_channe
 use arrayvec::ArrayVec;
 use std::marker::Model;
 
-/// Whether the numbers may be those of the channels that classes own: 1 to 4 numbers, each 1 to 8, at most 8
-/// in all.
+/// Whether classes may own these numbers of channels: 1 to 4 numbers, each 1 to 8, at most 8 in all.
 pub fn are_channels(counts: &[u8]) -> bool
     ensures { IsTrue result ↔ AreChannels counts.now }
 {
@@ -23,13 +22,10 @@ pub fn are_channels(counts: &[u8]) -> bool
     total <= 8
 }
 
-/// How many virtual channels each message class owns on every link: class 0 owns the channels from 0, each
-/// next class those that follow (Dally and Towles, chapter 13).
+/// How many virtual channels each class owns on every link, class 0 the lowest (Dally and Towles, chapter 13).
 #[derive(Debug, Drop)]
 pub struct ClassChannels {
-    /// The number of channels of each class.
     counts: ArrayVec<u8, 4>,
-    /// Their sum.
     total: u8,
 }
 

@@ -1,14 +1,9 @@
-//! What travels through the network: flits, the packets that they are cut from, a flit as one word, and the
-//! channels that message classes own (Dally and Towles, chapters 12 and 13); and sets of small numbers, such
-//! as classes or ports.
+//! What travels through the network: flits, packets, a flit as one word, sets of small numbers, and the channels that
+//! message classes own (Dally and Towles, chapters 12 and 13).
 //!
-//! A packet is one `Single` flit, or a `Head`, any number of `Body` flits and a `Tail`; a mark that closes a
-//! lane is a packet of one `Close` flit. Each flit carries a stamp (its lane, its packet's number in the lane,
-//! its index in the packet), so that what comes out of a network can be compared with what went in.
-//!
-//! The definitions in `specs/` are those of all crates above: the flits of a packet, what a channel may carry
-//! flit by flit (a worm), the word of a flit, and which class owns which channel. Nothing here knows of
-//! routes, nodes' places or buffers.
+//! A packet is one `Single` flit, or a `Head`, up to 30 `Body` flits and a `Tail`. A mark that closes a lane is one
+//! `Close` flit. By each flit's stamp (lane, packet, index) what came out of a network can be compared with what went
+//! in. Nothing here knows of routes, nodes' places or buffers.
 #![tactic(auto)]
 
 ghost use Rattle.std.specs.Prelude.{◌≡◌};
@@ -24,8 +19,8 @@ pub use packet::{Packet, PacketFault, close_flit, flit_at};
 pub use packing::{pack, unpack};
 pub use small_set::SmallSet;
 
-/// A source node, a destination node and a message class: whose flits arrive in the order in which they were
-/// offered, where the class owns one channel. The packets of a lane are numbered from 0.
+/// A source node, a destination node and a message class, whose packets are numbered from 0. Where the class owns one
+/// channel, the lane's flits arrive in the order in which they were offered.
 #[derive(Clone, Copy, Debug, PartialEq, Eq, PartialOrd, Ord)]
 pub struct Lane {
     /// The node whose source offers the packets.

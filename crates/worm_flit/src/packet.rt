@@ -18,7 +18,6 @@ pub enum PacketFault {
 }
 
 /// A lane and 1 to 32 words of 32 bits, each of which becomes one flit (Dally and Towles, chapter 12).
-///
 /// `Packet::new(lane, &[17, 18])` is cut into a head with word 17 and a tail with word 18.
 #[derive(Debug, Drop)]
 pub struct Packet {
@@ -38,8 +37,7 @@ impl Model for Packet {
 }
 
 impl Packet {
-    /// A packet of these words, on this lane. `Empty` where there is no word, `TooLong` where there are more
-    /// than 32.
+    /// A packet of these words, on this lane. `Empty` where there is no word, `TooLong` where there are more than 32.
     pub fn new(lane: Lane, words: &[u32]) -> Result<Packet, PacketFault>
         ensures ok { IfOk result (λ p. p ≡ record { lane = lane; words = words.now }) }
         ensures empty { (result ≡ Err PacketFault.Empty) ↔ (length words.now ≡ 0) }
@@ -75,7 +73,6 @@ impl Packet {
     }
 }
 
-/// The kind of flit `i` of a packet of so many.
 fn kind_at(count: usize, i: u8) -> Kind
     ensures { result ≡ kind_in count i }
 {
@@ -90,8 +87,7 @@ fn kind_at(count: usize, i: u8) -> Kind
     }
 }
 
-/// Flit `i` of the packet that has this number in its lane: counted from 0, one flit for each word. Its
-/// channel is its class.
+/// Flit `i` of the packet with this number in its lane, one flit a word, counted from 0. Its channel is its class.
 pub fn flit_at(packet: &Packet, number: u16, i: u8) -> Flit
     requires { i < length packet.now.words }
     ensures { slice_get (packet_flits packet.now.lane number packet.now.words) i ≡ Some result }

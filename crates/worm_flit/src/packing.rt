@@ -36,8 +36,8 @@ const TWO_BYTES: u128 = 1 << 16;
 
 const FOUR_BYTES: u128 = 1 << 32;
 
-/// A flit as one word, as a link between two workers carries it. From the low end its word, channel, kind, index,
-/// packet number, class, destination and source; the upper 32 bits are zero.
+/// A flit as a word for a link between two workers: from the low end word, channel, kind, index, packet, class,
+/// destination and source. The upper 32 bits are zero.
 pub fn pack(flit: Flit) -> u128
     ensures word { result ≡ word_of flit }
     ensures back { (is_word result ≡ true) × (flit_of result ≡ flit) }
@@ -49,8 +49,7 @@ pub fn pack(flit: Flit) -> u128
     order * FOUR_BYTES + u128::from(flit.word)
 }
 
-/// The flit that a word stands for; `None` where it is the word of none, as its kind is above 4 or one of its
-/// upper 32 bits is set.
+/// The flit that a word stands for; `None` where its kind is above 4 or one of its upper 32 bits is set.
 pub fn unpack(word: u128) -> Option<Flit>
     ensures fields { result ≡ (if is_word word then Some (flit_of word) else None) }
     ensures found { IfSome result (λ flit. word_of flit ≡ word) }

@@ -66,12 +66,10 @@ impl SmallSet {
             return None;
         }
         let number = self.bits.trailing_zeros() as u8;
-        // The number before has all the bits but the lowest.
         self.bits &= self.bits - 1;
         Some(number)
     }
 
-    /// Puts the number into the set.
     fn insert(&mut self, number: u8)
         requires { number < 8 }
         ensures { IsPut self.old self.new number true }
@@ -79,7 +77,6 @@ impl SmallSet {
         self.bits |= 1 << number;
     }
 
-    /// Takes the number out of the set.
     fn remove(&mut self, number: u8)
         requires { number < 8 }
         ensures { IsPut self.old self.new number false }

@@ -20,11 +20,9 @@ pub enum MeshFault {
     TooManyNodes,
 }
 
-/// A k-ary n-mesh of 1 to 3 dimensions, each with a radix of its own from 2 to 16, and of at most 256 nodes (Dally and
-/// Towles, chapter 5). In contracts it is the list of its radices, the lowest dimension first.
-///
-/// Nodes are numbered from 0, by the sum of each digit of the address times the product of the radices below it. Port
-/// `2d` is the minus side of dimension `d`, port `2d + 1` its plus side.
+/// A k-ary n-mesh of 1 to 3 dimensions, each with its own radix from 2 to 16, and of at most 256 nodes (Dally and
+/// Towles, chapter 5). In contracts it is the list of its radices, the lowest dimension first. A node's number sums
+/// its digits, each times the radices below it. Port `2d` is the minus side of dimension `d`, `2d + 1` its plus side.
 ///
 /// ```
 /// let mesh = Mesh::new(&[3, 2])?;
@@ -33,10 +31,8 @@ pub enum MeshFault {
 /// ```
 #[derive(Clone, Copy, Debug, PartialEq, Eq)]
 pub struct Mesh {
-    // The radices, the lowest dimension first. Those past the last dimension are 1, so the product of all three is the
-    // number of nodes.
+    // The lowest dimension first. Past the last one they are 1, so the product of all three is the number of nodes.
     radices: [u8; 3],
-    // How many of them are the mesh's own: 1 to 3.
     dims: u8,
 }
 
@@ -75,22 +71,19 @@ impl Model for Mesh {
       Prim.rw (filled, counted) refl };
 }
 
-// Whether each radix is within the limits.
 fn are_radices(radices: &[u8]) -> bool
     ensures { IsTrue result ↔ All IsRadix radices.now }
 {
     radices.iter().all(|k| *k >= 2 && *k <= 16)
 }
 
-// How many links leave the nodes below a node, and how many leave that node itself.
 #[derive(Clone, Copy)]
 struct LinkCounts {
     below: u16,
     here: u16,
 }
 
-// The counts at `node` in a mesh with these radices, with no look at the nodes below it: from its lowest digit, and
-// from the counts at its row in the mesh of the higher dimensions.
+// It looks at no node below: it goes by the lowest digit, and by the counts at the row in the higher dimensions.
 fn link_counts(radices: &[u8], node: u16) -> LinkCounts
     requires few_dims { length radices.now ≤ 3 }
     requires radices { All IsRadix radices.now }
@@ -113,7 +106,6 @@ fn link_counts(radices: &[u8], node: u16) -> LinkCounts
     }
 }
 
-// On how many sides a digit can step: down where it is above 0, up where it is not the last one.
 fn sides_of(radix: u16, digit: u16) -> u16
     requires { digit < radix }
     ensures value { result ≡ sides_of radix digit }
@@ -122,8 +114,6 @@ fn sides_of(radix: u16, digit: u16) -> u16
     u16::from(digit > 0) + u16::from(digit + 1 < radix)
 }
 
-// How many links leave the nodes of `row` whole rows and the first `digit` nodes of the next one, where a row is one
-// run of the lowest digit and `rest` has the counts at that next row.
 fn links_in_rows(radix: u16, row: u16, digit: u16, rest: LinkCounts) -> u16
     requires radix { IsRadix radix }
     requires fits { links_in_rows radix row digit rest.below rest.here < 2 ^ 16 }
@@ -142,9 +132,8 @@ impl Mesh {
     ghost use Rattle.worm_mesh.specs.Ends.{AreEndsOf};
     ghost use Rattle.worm_mesh.specs.Faults.{IsFault};
 
-    /// The mesh with these radices, the lowest dimension first. Refused, in this order: `Radix` where one of all the
-    /// radices is outside 2 to 16, `Dims` where there is none or more than three, `TooManyNodes` where their product is
-    /// above 256.
+    /// The mesh with these radices, the lowest dimension first. Refused, in this order: `Radix` where any radix is
+    /// outside 2 to 16, `Dims` where there is none or more than three, `TooManyNodes` where the product is above 256.
     pub fn new(radices: &[u8]) -> Result<Mesh, MeshFault>
         ensures { MatchResult result (λ m. (m ≡ radices.now) × AreRadices radices.now) (IsFault radices.now) }
     {
@@ -159,7 +148,6 @@ impl Mesh {
         }
     }
 
-    // The mesh with the first `dims` of these radices, if it has not too many nodes.
     fn bounded(radices: [u8; 3], dims: u8) -> Result<Mesh, MeshFault>
         requires some_dims { 0 < dims }
         requires few_dims { dims ≤ 3 }
@@ -205,7 +193,6 @@ impl Mesh {
         self.radices[usize::from(d)]
     }
 
-    // What one step in dimension `d` adds to a node's number.
     fn stride(&self, d: u8) -> u16
         requires { d < length self.now }
         ensures value { result ≡ stride_of self.now d }
@@ -231,7 +218,6 @@ impl Mesh {
         (u16::from(node) / self.stride(d) % u16::from(self.radix(d))) as u8
     }
 
-    // Whether `node` has a neighbour at `port`.
     fn has_neighbour(&self, node: u8, port: u8) -> bool
         ensures value { result ≡ has_neighbour self.now node port }
         ensures mesh { AreRadices self.now }
@@ -248,8 +234,7 @@ impl Mesh {
         }
     }
 
-    /// The node that leaving `node` by `port` leads to. None at the edge of the mesh, and for a node or a port that the
-    /// mesh does not have, the terminal among them.
+    /// The node that `port` of `node` leads to. None at the edge, at the terminal, and for a node or port not there.
     pub fn neighbour(&self, node: u8, port: u8) -> Option<u8>
         ensures value { result ≡ neighbour_of self.now node port }
         ensures joins { MatchOption result ((to : ℕ) → ¬ Joins self.now node port to) (Joins self.now node port) }
@@ -268,7 +253,7 @@ impl Mesh {
         Some(to as u8)
     }
 
-    /// The port by which a neighbour is entered by what leaves a node by `port`: the other side of the same dimension.
+    /// The port by which what leaves a node by `port` enters its neighbour: the other side of the same dimension.
     pub fn opposite(&self, port: u8) -> u8
         requires { port < 2 * length self.now }
         ensures value { result ≡ opposite_of port }
@@ -276,11 +261,9 @@ impl Mesh {
         ensures twice { opposite_of result ≡ port }
         ensures back { (from : ℕ) (to : ℕ) → Joins self.now from port to → Joins self.now to result from }
     {
-        // The two ports of a dimension differ in the lowest bit alone.
         port ^ 1
     }
 
-    // How many links leave `node` by a port below `port`.
     fn links_below_port(&self, node: u8, port: u8) -> u16
         requires { port ≤ 2 * length self.now }
         ensures value { result ≡ links_below_port self.now node port }
@@ -295,7 +278,6 @@ impl Mesh {
         count
     }
 
-    // How many links leave the nodes below `node`.
     fn links_below_node(&self, node: u16) -> u16
         requires { node ≤ node_count self.now }
         ensures value { result ≡ sum_below (degree_of self.now) node }
@@ -313,8 +295,7 @@ impl Mesh {
         self.links_below_node(self.nodes())
     }
 
-    /// The number of the link that leaves `node` by `port`: how many links come before it, by rising node, then rising
-    /// port. None where there is no such link. It takes the same few steps at each node.
+    /// The number, by rising node, then port, of the link that leaves `node` by `port`; None where there is none.
     pub fn link_number(&self, node: u8, port: u8) -> Option<u16>
         ensures value { SomeIff result (IsLink self.now node port) (links_before self.now node port) }
         ensures in_range { IfSome result (λ n. n < link_count self.now) }
@@ -326,8 +307,7 @@ impl Mesh {
         Some(self.links_below_node(u16::from(node)) + self.links_below_port(node, port))
     }
 
-    /// The ends of the link with this number; None at `links()` and above. It goes through the nodes, so it is not for
-    /// a turn: there, name a link by its node and port.
+    /// The ends of the link with this number; None at `links()` and above. It goes through the nodes: not for a turn.
     pub fn link_ends(&self, number: u16) -> Option<LinkEnds>
         ensures { MatchOption result (link_count self.now ≤ number) (AreEndsOf self.now number) }
     {
@@ -340,7 +320,6 @@ impl Mesh {
         None
     }
 
-    // The ends of the link with this number, if it is one of those that leave `from`.
     fn link_ends_at(&self, from: u8, number: u16) -> Option<LinkEnds>
         requires in_mesh { from < node_count self.now }
         requires reached { sum_below (degree_of self.now) from ≤ number }

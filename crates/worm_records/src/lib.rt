@@ -1,14 +1,8 @@
-//! The channel records of a router: what it knows of each input channel and of each output channel
-//! (Dally and Towles, chapter 16).
+//! The channel records of a router: what it knows of each input and output channel (Dally and Towles, chapter 16).
 //!
-//! An input channel is idle, waits for a channel of an output port, or holds one. An output channel is
-//! free or held by one input channel, and counts the flits that the buffer at its far end can still
-//! take. Each move of a record has the condition under which it is made and gives the record after it
-//! exactly. A router's step is one move of each record that it touches.
-//!
-//! A record is a plain value. That holder and held channel name each other is the router's to keep, and
-//! so is the range of ports and channels: neither is known here. The book's finer states (routing, and
-//! active without a credit) are not kept: a credit count and a buffer tell them.
+//! A router's step is one move of each record that it touches. Each move gives the record after it exactly. That
+//! holder and held channel name each other is the router's to keep. The book's finer states (routing, and active
+//! without a credit) are not kept: a credit count and a buffer tell them.
 #![tactic(auto)]
 
 ghost use Rattle.std.specs.Prelude.{◌≡◌, ◌+◌, ◌-◌, ◌<◌, ◌≤◌, ℕ, Some, None, IsSome};

@@ -1,15 +1,9 @@
 //! Dimension-order routing on a k-ary n-mesh (Dally and Towles, chapter 8): the lowest dimension in which a node
-//! differs from the destination is corrected first, so a route depends on its source and destination alone, and is as
-//! short as any.
+//! differs from the destination is corrected first. So a route depends on its two ends alone, and is as short as any.
 //!
-//! One idea carries it: a route is one list of addresses, written leg by leg, and the code's single hop is shown to
-//! walk it. From the route come the places of a lane, that is of the flits from one source to one destination: the
-//! buffers and links that they pass, from the sink back; and the lane machine, the list of all its flits with a cut
-//! between each two places, of which a hop raises one cut. What a link has to know, whether a route crosses it, is a
-//! test by digits that is true exactly where the route has that hop.
-//!
-//! A route's list is never made in the code: each call looks once at each dimension. Adaptive and randomized routing
-//! stand nowhere here, nor do channels or flits.
+//! One idea carries it: a route is one list of addresses, which the code's single hop walks with one look at each
+//! dimension. The lane machine is the list of a lane's flits with a cut between each two of its places (source,
+//! buffers, links), from the sink back; a hop raises one cut. No adaptive or randomized routing is here.
 #![tactic(auto)]
 
 ghost use Rattle.std.specs.Prelude.{◌≡◌, ◌≢◌, ◌+◌, ◌*◌, ◌/◌, ◌%◌, ◌<◌, ◌≤◌, ◌==◌, ◌↔◌, if◌then◌else◌, length, IsTrue};
@@ -20,9 +14,7 @@ ghost use Rattle.worm_route.specs.Route.{LeadsOn, hops_of, port_of, route_of, wa
 
 use worm_mesh::Mesh;
 
-/// The port by which the route to `dst` leaves `here`: `2d` is the minus side of dimension `d`, `2d + 1` its plus side.
-/// At
-/// `dst` itself it is the terminal, twice the number of dimensions. Both are nodes of the mesh.
+/// The port by which the route to `dst` leaves `here`; at `dst` itself the terminal, twice the number of dimensions.
 pub fn next_port(mesh: &Mesh, here: u8, dst: u8) -> u8
     requires here_in { here < node_count mesh.now }
     requires dst_in { dst < node_count mesh.now }
@@ -31,7 +23,6 @@ pub fn next_port(mesh: &Mesh, here: u8, dst: u8) -> u8
     ensures arrived { here ≡ dst → result ≡ 2 * length mesh.now }
     ensures onward { here ≢ dst → LeadsOn mesh.now here result dst }
 {
-    // What is left of the two addresses, as numbers, above the dimensions that were looked at.
     let (mut at, mut goal) = (here, dst);
     for d in 0..mesh.dims() {
         let radix = mesh.radix(d);
@@ -49,8 +40,7 @@ pub fn next_port(mesh: &Mesh, here: u8, dst: u8) -> u8
     2 * mesh.dims()
 }
 
-/// How many links the route from `src` to `dst` takes, 0 where they are one node: the sum of the distances of their
-/// digits. Both are nodes of the mesh.
+/// How many links the route from `src` to `dst` takes: the sum of the distances of their digits.
 pub fn hops(mesh: &Mesh, src: u8, dst: u8) -> u8
     requires src_in { src < node_count mesh.now }
     requires dst_in { dst < node_count mesh.now }
@@ -66,16 +56,13 @@ pub fn hops(mesh: &Mesh, src: u8, dst: u8) -> u8
     hops
 }
 
-/// Whether the route from `src` to `dst` crosses the link that leaves `node` by `port`: whether it has the link's two
-/// nodes one after the other. False for a node or a port that the mesh does not have; `src` and `dst` are nodes of the
-/// mesh.
+/// Whether the route from `src` to `dst` crosses the link from `node` by `port`. False where there is no such link.
 pub fn crosses(mesh: &Mesh, node: u8, port: u8, src: u8, dst: u8) -> bool
     requires src_in { src < node_count mesh.now }
     requires dst_in { dst < node_count mesh.now }
     ensures value { result ≡ crosses mesh.now node port src dst }
     ensures exact { IsTrue result ↔ Follows mesh.now node port src dst }
 {
-    // What is left of the three addresses, as numbers, above the dimensions that were looked at.
     let (mut at, mut first, mut last) = (node, src, dst);
     for d in 0..mesh.dims() {
         let radix = mesh.radix(d);
@@ -95,8 +82,7 @@ pub fn crosses(mesh: &Mesh, node: u8, port: u8, src: u8, dst: u8) -> bool
     false
 }
 
-// The lowest digit of an address in this radix, and what is left above it. A division takes longest of all that a
-// route costs, and most radices are powers of two: for these a mask and a shift do.
+// A division takes longest of all in a route, and most radices are powers of two: for these a mask and a shift do.
 fn split(address: u8, radix: u8) -> (u8, u8)
     requires { 0 < radix }
     ensures digit { result.0 ≡ address % radix }
@@ -109,7 +95,6 @@ fn split(address: u8, radix: u8) -> (u8, u8)
     (address % radix, address / radix)
 }
 
-// Whether a digit that runs from `first` to `last`, which it does not leave, steps from `at` to this side.
 fn steps_by(port: u8, at: u8, first: u8, last: u8) -> bool
     ensures { result ≡ (if port % 2 == 0 then steps_down at first last else steps_up at first last) }
 {

@@ -1,5 +1,4 @@
-//! What the channel allocator goes over, kept as it comes: which output channels input channels ask for, and which are
-//! free.
+//! What the channel allocator goes over, kept as it comes.
 
 ghost use Rattle.std.specs.Prelude.{◌≡◌, ◌<◌, ◌≤◌, Some, None, IsTrue, false, true, replicate};
 ghost use Rattle.worm_vcalloc.specs.Table.{IsTable, cell, with_cell};
@@ -12,11 +11,8 @@ use worm_vcalloc::{FreeChannels, VcRequest, VcRequests};
 /// Who asks for an output channel, and which are free.
 #[derive(Drop)]
 pub struct Demand {
-    /// That a pass grants nothing: no request is for a free channel. It may be false where none is.
     grants_nothing: bool,
-    /// What the waiting input channels ask for.
     requests: VcRequests,
-    /// Which output channels are free.
     free: FreeChannels,
 }
 
@@ -31,7 +27,6 @@ impl Model for Demand {
     ghost invariant = { λ d. IsTrue d.grants_nothing → GrantsNothing d.requests d.free };
 }
 
-/// Marks the channels of an output port as free.
 fn free_port(free: &mut FreeChannels, port: u8, vcs: u8)
     requires port { port < 7 }
     requires vcs { vcs ≤ 8 }
@@ -43,7 +38,6 @@ fn free_port(free: &mut FreeChannels, port: u8, vcs: u8)
     }
 }
 
-/// The channels of so many ports, all free.
 fn all_free(ports: u8, vcs: u8) -> FreeChannels
     requires ports { ports ≤ 7 }
     requires vcs { vcs ≤ 8 }

@@ -38,25 +38,18 @@ use worm_vcalloc::{VcAlloc, VcRequest};
 /// ```
 #[derive(Drop)]
 pub struct Router {
-    /// The routes from its node.
     routes: Routes,
-    /// The channels that classes own.
     classes: ClassChannels,
-    /// The channels of each class, as `ClassChannels::mask` tells them.
+    /// `ClassChannels::mask` of each class.
     masks: [u8; 4],
-    /// How many flits each buffer holds, 1 to 16.
     depth: u8,
-    /// The input channels.
     inputs: Vec<InputChannel>,
-    /// The records of the output channels. The terminal's always have `depth` credits.
+    /// The terminal's always have `depth` credits.
     outputs: Vec<OutRecord>,
-    /// The allocator of the switch.
     switch_alloc: SwAlloc,
-    /// Which input channels have something to do.
     busy: BusyChannels,
-    /// Which output channels are asked for, and which are free.
     demand: Demand,
-    /// The allocator of output channels. It stands last: a turn mostly reads what is before it, and seldom this.
+    /// It stands last: a turn mostly reads what is before it, and seldom this.
     channel_alloc: VcAlloc,
 }
 
@@ -73,7 +66,6 @@ impl Model for Router {
         r.outputs.items r.channel_alloc r.switch_alloc) r.busy r.demand r.masks };
 }
 
-/// A flit goes out by a channel of a port at which it costs so many credits: one, or none where it leaves the network.
 fn spend(output: &mut OutRecord, cost: u8)
     requires one { cost ≤ 1 }
     requires there { cost ≤ output.old.credits }
@@ -85,8 +77,8 @@ fn spend(output: &mut OutRecord, cost: u8)
 }
 
 impl Router {
-    /// The router of a node of the mesh, with so many channels for each class and buffers of this depth, 1 to 16. All
-    /// its buffers are made here, and no other call takes memory. `NoMemory` where there is none.
+    /// The router of a node of the mesh, with so many channels for each class and buffers of this depth, 1 to 16. No
+    /// other call takes memory. `NoMemory` where there is none.
     pub fn new(
         alloc: Global,
         mesh: &Mesh,
@@ -104,7 +96,7 @@ impl Router {
         let ports = 2 * mesh.dims() + 1;
         let total = classes.total();
         let count = usize::from(ports) * usize::from(total);
-        // The outputs come last: room is left behind them.
+        // The outputs come last: room is left after them.
         let routes = Routes::from_node(alloc, mesh, node)?;
         let inputs = make_inputs(alloc, count, depth)?;
         let outputs = make_outputs(alloc, count, depth)?;
@@ -122,7 +114,6 @@ impl Router {
         })
     }
 
-    /// Where a channel of a port stands in the lists.
     fn line(&self, port: u8, vc: u8) -> usize
         requires { IsPlace self.now port vc }
         ensures value { result ≡ line self.now port vc }
@@ -142,7 +133,6 @@ impl Router {
         self.routes.terminal()
     }
 
-    /// How many credits a flit costs that comes in or goes out by this port: one, and none at the terminal.
     fn credit_of(&self, port: u8) -> u8
         ensures value { result ≡ credit_of self.now port }
         ensures bound { result ≤ 1 }
@@ -150,8 +140,7 @@ impl Router {
         if port == self.terminal() { 0 } else { 1 }
     }
 
-    /// Puts a flit that came in by the port at the end of its channel's buffer. It comes back exactly where the buffer
-    /// is full; the router is then as it was.
+    /// Puts a flit that came in by the port into its channel's buffer. It comes back exactly where that is full.
     #[inline(always)]
     pub fn accept(&mut self, port: u8, flit: Flit) -> Result<(), Flit>
         requires place { IsPlace self.old port flit.vc }
@@ -167,7 +156,6 @@ impl Router {
         }
     }
 
-    /// A copy of the flit comes in, where the buffer has room.
     #[inline(always)]
     fn put(&mut self, port: u8, flit: &Flit) -> bool
         requires place { IsPlace self.old port flit.now.vc }
@@ -182,7 +170,6 @@ impl Router {
         came
     }
 
-    /// The channels of a class, as a bit for each.
     fn mask(&self, class: u8) -> u8
         ensures { result ≡ class_bits self.now.channels class }
     {
@@ -192,8 +179,7 @@ impl Router {
         }
     }
 
-    /// Route computation: an idle channel with an opening flit at its front comes to wait for the output port that the
-    /// packet's route takes. False, and nothing done, where it is not idle or has no such flit.
+    /// Route computation: an idle channel with an opening flit in front then waits for its output port. Else false.
     pub fn route(&mut self, port: u8, vc: u8) -> bool
         requires { IsPlace self.old port vc }
         ensures enabled { result ≡ can_route self.old port vc }
@@ -218,7 +204,6 @@ impl Router {
         true
     }
 
-    /// The output port that the channel waits for, where it may be granted this channel of it.
     fn grantable(&self, port: u8, vc: u8, out_vc: u8) -> Option<u8>
         requires place { IsPlace self.now port vc }
         requires out_channel { out_vc < width self.now }
@@ -239,7 +224,6 @@ impl Router {
         Some(out)
     }
 
-    /// Writes a grant into both records.
     fn hold(&mut self, port: u8, vc: u8, out: u8, out_vc: u8)
         requires place { IsPlace self.old port vc }
         requires out_place { IsPlace self.old out out_vc }
@@ -259,8 +243,7 @@ impl Router {
         self.busy.no_credit.put(port, vc, output.credits < cost);
     }
 
-    /// A waiting channel gets channel `out_vc` of the port that it waits for, where that is free and owned by the class
-    /// of the packet at its front. False, and nothing done, where it is not.
+    /// Gives a waiting channel `out_vc` of its output port, if free and owned by its packet's class. Else false.
     pub fn grant(&mut self, port: u8, vc: u8, out_vc: u8) -> bool
         requires place { IsPlace self.old port vc }
         requires out_channel { out_vc < width self.old }
@@ -276,8 +259,6 @@ impl Router {
         }
     }
 
-    /// Whether the channel may send now: it has a flit and holds an output channel that has a credit for it, and it may
-    /// owe one more.
     fn may_send(&self, port: u8, vc: u8) -> bool
         requires { IsPlace self.now port vc }
         ensures { result ≡ is_some (leaving self.now port vc) }
@@ -285,7 +266,6 @@ impl Router {
         self.busy.ready().contains(port, vc)
     }
 
-    /// The output port and the flit of a channel that may send, as it would leave: on the channel that it was granted.
     #[inline(always)]
     fn next_out(&self, port: u8, vc: u8) -> (u8, Flit)
         requires place { IsPlace self.now port vc }
@@ -304,8 +284,7 @@ impl Router {
         (out, flit)
     }
 
-    /// The output port and the flit that may leave now, as it would leave: on the channel that it was granted, where
-    /// there is a credit for it, and room for one more owed.
+    /// The output port and the flit that may leave, on its granted channel: there is a credit, and room to owe one.
     #[inline(always)]
     pub fn ready(&self, port: u8, vc: u8) -> Option<(u8, Flit)>
         requires { IsPlace self.now port vc }
@@ -318,8 +297,8 @@ impl Router {
         Some(self.next_out(port, vc))
     }
 
-    /// The flit that `ready` names has left. A credit is spent for it and one is owed; a closing flit frees both
-    /// channels.
+    /// The flit that `ready` names has left. A credit is spent and one is owed, except at the terminal. A closing
+    /// flit frees both channels.
     #[inline(always)]
     pub fn sent(&mut self, port: u8, vc: u8)
         requires place { IsPlace self.old port vc }
@@ -330,7 +309,6 @@ impl Router {
         self.let_out(port, vc, out, flit);
     }
 
-    /// The flit has left by the output port `out`.
     #[inline(always)]
     fn let_out(&mut self, port: u8, vc: u8, out: u8, flit: Flit)
         requires place { IsPlace self.old port vc }
@@ -392,8 +370,7 @@ impl Router {
         self.busy.owes_all.put(port, vc, false);
     }
 
-    /// A credit has come back for this output channel. `TooMany` exactly where its count is the depth, as at the
-    /// terminal; the router is then as it was.
+    /// A credit came back for this output channel. `TooMany` exactly where it has all `depth`, as at the terminal.
     pub fn credit(&mut self, out_port: u8, vc: u8) -> Result<(), TooMany>
         requires { IsPlace self.old out_port vc }
         ensures full { IsErr result ↔ ((output_at self.old out_port vc).credits ≡ self.old.depth) }

@@ -13,11 +13,8 @@ use worm_route::next_port;
 /// The routes from one node of a mesh.
 #[derive(Drop)]
 pub struct Routes {
-    /// The mesh.
     mesh: Mesh,
-    /// The node.
     node: u8,
-    /// The output port of the route to each node.
     table: Vec<u8>,
 }
 
@@ -62,8 +59,7 @@ impl Routes {
     }
 }
 
-/// The output port of the route from this node to each node of the mesh. The lowest digit of each is counted: where it
-/// is not this node's own, it tells the port.
+/// The lowest digit of each node is counted: where it is not this node's own, it tells the port.
 fn make_table(alloc: Global, mesh: &Mesh, node: u8) -> Result<Vec<u8>, AllocError>
     requires { node < node_count mesh.now }
     ensures { IfOk result (λ v. AreRoutes mesh.now node v.items) }
@@ -80,7 +76,6 @@ fn make_table(alloc: Global, mesh: &Mesh, node: u8) -> Result<Vec<u8>, AllocErro
     Ok(table)
 }
 
-/// The output port of the route from a node to another, whose lowest digits are `own` and `lowest`.
 fn port_by_lowest(mesh: &Mesh, node: u8, own: u8, dst: u8, lowest: u8) -> u8
     requires node { node < node_count mesh.now }
     requires dst { dst < node_count mesh.now }
@@ -96,7 +91,6 @@ fn port_by_lowest(mesh: &Mesh, node: u8, own: u8, dst: u8, lowest: u8) -> u8
     if own < lowest { 1 } else { 0 }
 }
 
-/// The lowest digit of the number after one with this lowest digit.
 fn next_digit(digit: u8, radix: u8) -> u8
     requires { digit < radix }
     ensures { (n : ℕ) → digit ≡ n % radix → result ≡ (n + 1) % radix }

@@ -5,13 +5,11 @@ ghost use Rattle.worm_script.specs.declared.entry.Entry.{Entry as OfEntry};
 use crate::entry::{Act, Entry};
 use std::marker::Model;
 
-/// The entries of a turn, in order. From each the next is known that asks the same source, so that nobody looks through
-/// those of other nodes.
+/// The entries of a turn, in order, each with the way to the next one that asks the same source.
 #[derive(Drop)]
 pub struct Due<'a> {
     entries: &'a [Entry],
-    /// From each of them, how many places on the next one stands that asks the same source: 0, or past them all, where
-    /// none does.
+    /// How many places after each of them the next one of its source stands: 0, or past them all, where none does.
     gaps: &'a [usize],
 }
 
@@ -28,7 +26,6 @@ impl<'a> Model for Due<'a> {
 }
 
 impl<'a> Due<'a> {
-    /// These entries, from each of which so many places on the next one stands that asks the same source.
     pub(crate) fn new(entries: &'a [Entry], gaps: &'a [usize]) -> Due<'a>
         requires gaps { AreGaps (sources_of entries.now) gaps.now }
         requires words { HaveWords entries.now }

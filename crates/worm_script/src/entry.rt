@@ -25,7 +25,6 @@ impl Act {
         }
     }
 
-    /// What holds of a packet, for contracts: it has words, and not too many.
     pub(crate) fn recall(&self)
         ensures { HasWords self.now }
     {

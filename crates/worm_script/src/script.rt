@@ -20,7 +20,7 @@ pub enum ScriptFault {
 #[derive(Debug, Drop)]
 pub struct Script {
     entries: Vec<Entry>,
-    /// From each entry, how many places on the next one stands that asks the same source: 0 where none does.
+    /// How many places after each entry the next one stands that asks the same source: 0 where none does.
     gaps: Vec<usize>,
     /// By node, how many entries there are up to the last one that asks its source: 0 where none does.
     lasts: [usize; 256],
@@ -38,7 +38,6 @@ impl Model for Script {
     ghost invariant = { λ s. IsScript s.entries.items s.gaps.items s.lasts };
 }
 
-/// Where the entries of a turn begin, and where those of later turns.
 fn places(entries: &[Entry], turn: u64) -> (usize, usize)
     requires { AreInOrder entries.now }
     ensures rise { result.0 ≤ result.1 }
@@ -50,7 +49,6 @@ fn places(entries: &[Entry], turn: u64) -> (usize, usize)
     (first, next)
 }
 
-/// Leads from the last entry of a source, if it has one, to the entry at the end.
 fn lead_to_end(gaps: &mut Vec<usize>, last: usize)
     requires { last ≤ length gaps.old.items }
     ensures none { last ≡ 0 → gaps.new.items ≡ gaps.old.items }
@@ -74,7 +72,6 @@ impl Script {
         }
     }
 
-    /// The last entry's turn, or 0 where there is none.
     fn last_turn(&self) -> u32
         ensures { result ≡ last_turn self.now }
     {
@@ -84,8 +81,7 @@ impl Script {
         }
     }
 
-    /// Adds an entry at the end. `TurnFalls` where its turn is below the last entry's, `NoMemory` where there is
-    /// none; the script is then as it was.
+    /// Adds an entry at the end. `TurnFalls` where its turn is below the last one's, `NoMemory` where there is none.
     pub fn push(&mut self, entry: Entry) -> Result<(), ScriptFault>
         ensures ok { OnOk result (self.new ≡ self.old ++ entry ∷ []) }
         ensures falls { (result ≡ Err ScriptFault.TurnFalls) ↔ (entry.turn < last_turn self.old) }
@@ -129,14 +125,12 @@ impl Script {
         let _entries = &self.entries;
     }
 
-    /// Whether all entries are of turns before this one, so that it has none.
     fn is_over(&self, turn: u64) -> bool
         ensures { IsTrue result → due turn self.now ≡ [] }
     {
         self.entries.is_empty() || u64::from(self.last_turn()) < turn
     }
 
-    /// The entries between two places, each with where the next stands.
     fn between(&self, first: usize, next: usize) -> Due<'_>
         requires rise { first ≤ next }
         requires within { next ≤ length self.now }

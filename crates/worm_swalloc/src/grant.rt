@@ -20,8 +20,7 @@ pub type ReadyOuts = ChannelMap;
 /// What each input port is granted, if anything.
 pub type SwGrants = [Option<SwGrant>; 7];
 
-/// The grants of a pass as a set: of what the ports named in a pass, that whose channel is in a set. So a grant is one
-/// bit, and whoever sends takes the set alone and goes past all other ports.
+/// The grants of a pass: what each port named, and the set of those granted. Whoever sends takes the set alone.
 ///
 /// ```text
 /// let mut left = grants.granted();
@@ -29,9 +28,7 @@ pub type SwGrants = [Option<SwGrant>; 7];
 /// ```
 #[derive(Drop)]
 pub struct SwMatching {
-    /// What each input port named, granted or not.
     requests: [Option<SwGrant>; 7],
-    /// The channels that may send, one of each port that has a grant.
     granted: ChannelSet,
 }
 
@@ -59,7 +56,6 @@ impl SwMatching {
         }
     }
 
-    /// Of these requests, one an input port, those whose channels are in the set.
     pub(crate) fn among(requests: [Option<SwGrant>; 7], granted: ChannelSet) -> SwMatching
         requires below { AreChannelsBelow 8 requests }
         requires requested { AreRequested requests granted }
@@ -68,7 +64,6 @@ impl SwMatching {
         SwMatching { requests, granted }
     }
 
-    /// One input port alone is granted something.
     pub(crate) fn sole(port: u8, grant: SwGrant) -> SwMatching
         requires port { port < 7 }
         requires channel { grant.vc < 8 }

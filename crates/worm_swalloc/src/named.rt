@@ -5,12 +5,9 @@ use crate::grant::SwGrant;
 use std::marker::Model;
 use worm_vcalloc::ChannelSet;
 
-/// What the input ports name in the first half of a pass: each a ready channel of its own, with its output port. Beside
-/// the list it keeps the input ports filed by the output port that they ask for, so that the second half goes past all
-/// others.
+/// What the input ports name in the first half of a pass, filed by output port: the second half skips the others.
 #[derive(Drop)]
 pub(crate) struct Named {
-    /// By input port.
     requests: [Option<SwGrant>; 7],
     /// The input ports that ask for each output port: a channel stands for an input port here.
     askers: ChannelSet,
@@ -29,7 +26,6 @@ impl Model for Named {
 }
 
 impl Named {
-    /// No input port names anything.
     pub(crate) fn new() -> Named
         ensures { result ≡ replicate 7 None }
     {
@@ -39,8 +35,7 @@ impl Named {
         }
     }
 
-    /// An input port that has named nothing names this. A request for an output port past the seventh is kept and never
-    /// met.
+    /// A request for an output port past the seventh is kept and never met.
     pub(crate) fn put(&mut self, port: u8, request: SwGrant)
         requires port { port < 7 }
         requires none { slice_index_or self.old port None ≡ None }
@@ -52,7 +47,6 @@ impl Named {
         }
     }
 
-    /// What an input port names, if anything.
     pub(crate) fn get(&self, port: u8) -> Option<SwGrant>
         requires { port < 7 }
         ensures { result ≡ slice_index_or self.now port None }
@@ -60,14 +54,12 @@ impl Named {
         self.requests[usize::from(port)]
     }
 
-    /// What each input port names.
     pub(crate) fn into_requests(self) -> [Option<SwGrant>; 7]
         ensures { result ≡ self }
     {
         self.requests
     }
 
-    /// The input ports that ask for each output port.
     pub(crate) fn askers(&self) -> ChannelSet
         ensures { AreAskers self.now result }
     {

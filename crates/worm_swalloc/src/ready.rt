@@ -7,13 +7,10 @@ use crate::grant::ReadyOuts;
 use std::marker::Model;
 use worm_vcalloc::ChannelSet;
 
-/// The channels that may send: those of a set, each with the output port that a map gives it. Other channels may have
-/// an output port in the map too.
+/// The channels of a set, which may send, each with the output port that a map gives it. The map may have others too.
 #[derive(Drop)]
 pub struct Ready<'a> {
-    /// The output ports, by port and channel.
     outs: &'a ReadyOuts,
-    /// The channels that may send.
     among: ChannelSet,
 }
 

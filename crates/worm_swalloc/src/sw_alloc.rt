@@ -24,9 +24,7 @@ use worm_vcalloc::{Arbiter, ChannelSet};
 /// ```
 #[derive(Clone, Copy)]
 pub struct SwAlloc {
-    /// The ports of the router, 1 to 7.
     ports: u8,
-    /// The channels of a port, 1 to 8.
     vcs: u8,
     /// The arbiter of each input port, a line for each of its channels.
     inputs: [Arbiter; 7],
@@ -45,8 +43,7 @@ impl Model for SwAlloc {
 }
 
 impl SwAlloc {
-    /// An allocator for a router of so many ports, 1 to 7, and channels a port, 1 to 8. Its
-    /// pointers stand at the first line.
+    /// An allocator for a router of so many ports, 1 to 7, and channels a port, 1 to 8.
     pub fn new(ports: u8, vcs: u8) -> Self
         requires some_port { 0 < ports }
         requires few_ports { ports ≤ 7 }
@@ -67,8 +64,7 @@ impl SwAlloc {
         }
     }
 
-    /// One pass over an array by port and channel, which has the output port of each ready channel: at most one grant
-    /// for each input port and for each output port.
+    /// One pass over an array by port and channel, which has the output port of each ready channel.
     pub fn grant(&mut self, ready: &[[Option<u8>; 8]; 7]) -> SwGrants
         ensures grants { result ≡ sw_grants self.old ready.now }
         ensures after { self.new ≡ sw_after self.old ready.now }
@@ -100,8 +96,7 @@ impl SwAlloc {
         SwMatching::among(named.into_requests(), granted)
     }
 
-    /// A pass over ready channels of which no two share an input port or an output port, as where each port has one
-    /// channel: no arbiter has a choice, so each of them is granted.
+    /// The same pass where no two ready channels share an input or output port: each is granted, no arbiter is asked.
     pub fn grant_each(&mut self, ready: &Ready<'_>) -> SwMatching
         requires apart { AreApart self.old ready.now }
         ensures grants { result ≡ sw_grants self.old ready.now }
@@ -122,7 +117,6 @@ impl SwAlloc {
         SwMatching::among(requests, among)
     }
 
-    /// An input port is granted this: its arbiter moves past the channel, and that of the output port past the port.
     fn move_past(&mut self, port: u8, grant: SwGrant)
         requires port { port < self.old.ports }
         requires channel { grant.vc < self.old.vcs }
@@ -133,7 +127,6 @@ impl SwAlloc {
         self.inputs[port as usize].move_past(grant.vc);
     }
 
-    /// The port that alone has ready channels, if there is one.
     fn sole_port(&self, ready: &Ready<'_>) -> Option<u8>
         ensures within { IfSome result (λ port. port < self.now.ports) }
         ensures sole { IfSome result (IsSolePort ready.now) }
@@ -147,7 +140,6 @@ impl SwAlloc {
         }
     }
 
-    /// Gathers what each input port names.
     fn gather(&self, ready: &Ready<'_>, asked: &mut Named)
         requires { asked.old ≡ replicate 7 None }
         ensures named { asked.new ≡ all_named self.now ready.now }
@@ -162,7 +154,6 @@ impl SwAlloc {
         }
     }
 
-    /// Adds what one input port names.
     fn ask(&self, port: u8, ready: &Ready<'_>, asked: &mut Named)
         requires port { port < self.now.ports }
         requires few { port < 7 }
@@ -174,7 +165,6 @@ impl SwAlloc {
         }
     }
 
-    /// What one input port names.
     fn request(&self, port: u8, ready: &Ready<'_>) -> Option<SwGrant>
         requires { port < self.now.ports }
         ensures { result ≡ named self.now ready.now port }
@@ -185,9 +175,6 @@ impl SwAlloc {
         Some(SwGrant { vc, out })
     }
 
-    /// The second half of a pass: the arbiter of each output port that is asked for chooses among the input ports that
-    /// ask for it. It moves, and so does that of the chosen input port, past the channel that it named. Tells the
-    /// channels that are granted.
     fn grant_named(&mut self, named: &Named) -> ChannelSet
         requires { AreChannelsBelow self.old.vcs named.now }
         ensures requested { AreRequested named.now result }
@@ -210,8 +197,6 @@ impl SwAlloc {
         granted
     }
 
-    /// The second half of a pass in which one input port alone may name anything: it has no rival, so what it names is
-    /// granted.
     fn grant_sole(&mut self, port: u8, request: Option<SwGrant>) -> SwMatching
         requires port { port < self.old.ports }
         requires channel { IfSome request (λ g. g.vc < self.old.vcs) }
@@ -233,7 +218,6 @@ impl SwAlloc {
         SwMatching::sole(port, grant)
     }
 
-    /// The arbiter of one output port chooses, and that of the chosen input port moves.
     fn choose_for(&mut self, out: u8, lines: u64, named: &Named, granted: &mut ChannelSet)
         requires out { out < self.old.ports }
         requires below { AreChannelsBelow self.old.vcs named.now }
@@ -258,7 +242,6 @@ impl SwAlloc {
         self.commit(port, request.vc, granted);
     }
 
-    /// An input port is granted the channel that it named, and its arbiter moves past it.
     fn commit(&mut self, port: u8, vc: u8, granted: &mut ChannelSet)
         requires port { port < self.old.ports }
         requires channel { vc < self.old.vcs }
@@ -273,7 +256,6 @@ impl SwAlloc {
     }
 }
 
-/// The lines of the ready channels of an input port.
 fn ready_lines(ready: &Ready<'_>, port: u8, vcs: u8) -> u64
     requires port { port < 7 }
     requires vcs { vcs ≤ 8 }

@@ -10,8 +10,7 @@ impl From<AllocError> for NoMemory {
     }
 }
 
-/// Why a source accepts no packet or mark. Where several apply, the first in the order of this list is answered, but
-/// for the last one, which stands right behind `NoSuchClass` then.
+/// Why a source accepts no packet or mark: the first that applies in this order, `ManyChannels` after `NoSuchClass`.
 #[derive(Clone, Copy, Debug, PartialEq, Eq)]
 pub enum OfferFault {
     /// The lane begins at another node.
@@ -26,7 +25,6 @@ pub enum OfferFault {
     LaneFull,
     /// There was no memory for the flits.
     NoMemory,
-    /// Of a close alone: the class owns several channels, so a mark would not be the last to arrive. It is looked for
-    /// right after the class.
+    /// Of a close alone: the class owns several channels, so a mark need not be the last to arrive.
     ManyChannels,
 }

@@ -9,9 +9,7 @@ use worm_flit::{Flit, Packet, flit_at};
 /// The flits of one class, as accepted, and how many of them were fed.
 #[derive(Drop)]
 pub struct Queue {
-    /// The flits, in the order in which they were accepted.
     injected: Vec<Flit>,
-    /// How many of them, from the first, were fed.
     fed: usize,
 }
 
@@ -26,7 +24,7 @@ impl Model for Queue {
     ghost invariant = { λ q. q.fed ≤ length q.injected.items };
 }
 
-/// Appends the packet's flits. Room for all of them is made first.
+/// Room for all of them is made first: without it nothing is appended.
 fn push_flits(flits: &mut Vec<Flit>, packet: &Packet, number: u16) -> Result<(), AllocError>
     ensures ok { OnOk result (flits.new.items ≡ flits.old.items
         ++ packet_flits packet.now.lane number packet.now.words) }

@@ -10,9 +10,7 @@ use worm_flit::{Flit, Kind, Lane};
 /// Where the packets for a node come out: the list of what arrived.
 #[derive(Drop)]
 pub struct Sink {
-    /// The node where its lanes end.
     node: u8,
-    /// The flits, in order of arrival.
     delivered: Vec<Flit>,
 }
 
@@ -24,7 +22,6 @@ impl Model for Sink {
     ghost view = { λ s. record { node = s.node; delivered = s.delivered.items } };
 }
 
-/// Whether the flit is the mark that closes the lane.
 fn is_mark_of(flit: Flit, lane: Lane) -> bool
     ensures { result ≡ (is_mark flit.kind && is_of_lane lane flit) }
 {

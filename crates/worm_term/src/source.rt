@@ -27,20 +27,14 @@ pub struct LaneState {
 /// Where a node's packets come in: what it accepted, and how much of it was fed.
 #[derive(Drop)]
 pub struct Source {
-    /// The node where its lanes begin.
     node: u8,
-    /// How many nodes there are to send to.
     nodes: u16,
-    /// The channels that classes own.
     classes: ClassChannels,
-    /// The flits of each class.
     queues: Vec<Queue>,
     /// The lanes by destination, then class.
     lanes: Vec<LaneState>,
-    /// The first channel of each class.
+    /// The first channel of each class. A turn mostly reads it and `unfed`, and then what stands after the source.
     firsts: [u8; 4],
-    /// The classes that have a flit that was not fed. This and `firsts` stand last, since a turn mostly reads them
-    /// alone and goes on with what stands behind the source.
     unfed: SmallSet,
 }
 
@@ -55,7 +49,6 @@ impl Model for Source {
         × AreFirsts s.classes s.firsts × AreUnfed s.queues.items s.unfed };
 }
 
-/// The first channel of each class; past the last class 0.
 fn first_channels(classes: &ClassChannels) -> [u8; 4]
     ensures { AreFirsts classes.now result }
 {
@@ -87,8 +80,7 @@ fn make_lanes(alloc: Global, count: usize) -> Result<Vec<LaneState>, AllocError>
 }
 
 impl Source {
-    /// The source of a node, with lanes to so many nodes, which has accepted nothing. `NoMemory` where there is none
-    /// for its lists.
+    /// The source of a node, with lanes to so many nodes. `NoMemory` where there is none for its lists.
     pub fn new(alloc: Global, node: u8, nodes: u16, channels: &[u8]) -> Result<Source, NoMemory>
         requires { AreChannels channels.now }
         ensures { IfOk result (λ s. s ≡ fresh_source node nodes channels.now) }
@@ -109,7 +101,6 @@ impl Source {
         })
     }
 
-    /// Where the lane's counter stands.
     fn line(&self, lane: Lane) -> usize
         requires dst { lane.dst < self.now.nodes }
         requires class { lane.class < classes self.now }
@@ -119,7 +110,6 @@ impl Source {
         usize::from(lane.dst) * usize::from(self.classes.classes()) + usize::from(lane.class)
     }
 
-    /// Where the counter of a lane stands that takes a packet, or its mark, now.
     fn admit(&self, lane: Lane, is_mark: bool) -> Result<usize, OfferFault>
         ensures value { IfOk result (λ i. i ≡ lane_line self.now lane) }
         ensures bound { IfOk result (λ i. i < length self.now.lanes) }
@@ -150,9 +140,8 @@ impl Source {
         Ok(i)
     }
 
-    /// Accepts the packet, all its flits or none, and answers its number in its lane. What refuses it, in this
-    /// order: `WrongSource`, `NoSuchNode`, `NoSuchClass`, `LaneClosed`, `LaneFull`, `NoMemory`; the source is
-    /// then as it was.
+    /// Accepts all flits of the packet or none, and answers its number in its lane. Refused, with nothing changed, in
+    /// this order: `WrongSource`, `NoSuchNode`, `NoSuchClass`, `LaneClosed`, `LaneFull`, `NoMemory`.
     pub fn offer(&mut self, packet: &Packet) -> Result<u16, OfferFault>
         ensures answer { IsAnswered (refusal self.old packet.now.lane false) result self.old
             (after_offer self.old packet.now) self.new }
@@ -174,9 +163,8 @@ impl Source {
         Ok(number)
     }
 
-    /// Accepts the lane's close mark, and answers its number; from then on nothing of the lane is accepted. What
-    /// refuses it, in this order: `WrongSource`, `NoSuchNode`, `NoSuchClass`, `ManyChannels`, `LaneClosed`,
-    /// `LaneFull`, `NoMemory`; the source is then as it was.
+    /// Closes the lane with its mark, and answers the mark's number. Refused, with nothing changed, in this order:
+    /// `WrongSource`, `NoSuchNode`, `NoSuchClass`, `ManyChannels`, `LaneClosed`, `LaneFull`, `NoMemory`.
     pub fn close(&mut self, lane: Lane) -> Result<u16, OfferFault>
         ensures answer { IsAnswered (refusal self.old lane true) result self.old (after_close self.old lane) self.new }
         ensures number { IfOk result (λ n. n ≡ next_number self.old lane) }
@@ -196,7 +184,6 @@ impl Source {
         Ok(number)
     }
 
-    /// The first channel of the class.
     fn first_channel(&self, class: u8) -> u8
         requires { class < classes self.now }
         ensures { result ≡ first_channel self.now.channels class }

@@ -1,10 +1,9 @@
-//! The theory of a wormhole network with credit-based virtual channels (Dally and Towles, chapters 5, 8, 12, 13 and 16):
-//! what a network is, what its nine steps do, and what they keep whatever list of them is taken (`networks`); the same
-//! of a network split at its links among parts that move by themselves (`parts`); and that a k-ary n-mesh with
-//! dimension-order routes is such a network, its cuts read along a lane's places (`meshes`).
+//! The theory of wormhole networks with virtual channels (Dally and Towles, chapters 5, 8, 12, 13 and 16).
 //!
-//! There is no code here but functions with empty bodies, whose contracts are the theorems; crates above use the
-//! lemmas behind them. Arbiters, memory, threads and time are not known here.
+//! One idea carries it: a channel stands between two packets, or within one whose last flit so far is known. A buffer
+//! followed by what its link holds of the channel leads from where the buffer's reader stands to where the link's
+//! writer stands. `Sound` says this and all else that each step keeps, place by place. The functions have empty
+//! bodies: their contracts are the theorems. Arbiters, memory, threads and time are not known here.
 #![tactic(auto)]
 
 mod meshes;

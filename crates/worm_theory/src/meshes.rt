@@ -1,13 +1,4 @@
-//! Real meshes meet the theory: a k-ary n-mesh with dimension-order routes (Dally and Towles, chapters 5 and 8), its
-//! channels handed out to classes, is a shape as the theory asks for it, and what the theory says along a route is
-//! said here by the list of a lane's places.
-//!
-//! One idea carries it: the theory's recursion from a source to its sink and the list of places from the sink back are
-//! the same places, read in one order. So the theory's cut of a lane is a list joined over its places, a step is one
-//! move of one lane's machine, and a packet that is open past a place has its one active channel there.
-//!
-//! The functions here have nothing to run: each clause is a law for the crates above, about any mesh, any network on it
-//! and any list of steps. Nothing is said of time, nor that anything is ever delivered.
+//! A k-ary n-mesh with dimension-order routes is a shape of the theory (Dally and Towles, chapters 5 and 8).
 
 ghost use Rattle.std.specs.Prelude.{ℕ, true, ◌≡◌, ◌↔◌, List};
 ghost use Rattle.worm_flit.specs.declared.Lane.{Lane};
@@ -27,7 +18,7 @@ ghost use Rattle.worm_theory.specs.Standing.{LeavesBy};
 ghost use Rattle.worm_theory.specs.LaneMoves.{lane_machine, EachMovesOne, LanesAreCut, LanesAreNowhereElse};
 ghost use Rattle.worm_theory.specs.PacketPlaces.{PacketsAreCut, OpenPacketsAreActive};
 
-/// The shape of each mesh with its classes is what the theory asks for, and a class owns the channels that it is given.
+/// The shape of each mesh with its classes is what the theory asks for; a class owns the channels that it is given.
 pub fn is_a_mesh()
     ensures mesh { (ks counts : List ℕ) (depth : ℕ) → AreRadices ks → AreChannels counts →
         IsMesh (shape_of ks counts depth) }
@@ -35,8 +26,7 @@ pub fn is_a_mesh()
         (Owns (shape_of ks counts depth) class channel ↔ (owns counts class channel ≡ true)) }
 {}
 
-/// A lane's places are those where the theory lets its flits stand: the source, the buffers that its route enters and
-/// the links that it leaves by.
+/// A lane's places are where the theory lets its flits stand: the source, and the buffers and links of its route.
 pub fn places_are_entered()
     ensures buffers { (ks counts : List ℕ) (depth : ℕ) (lane : Lane) → let s = shape_of ks counts depth in
         AreRadices ks → HasLane s lane → (x p : ℕ) →
@@ -56,8 +46,7 @@ pub fn test_is_exact()
         ((crosses ks x port lane.src lane.dst ≡ true) ↔ LeavesBy s lane x port) }
 {}
 
-/// What was delivered of a lane and what its places hold make the lane's machine, whose list is what was injected; a
-/// step makes at most one move of one such machine; and nothing of a lane is anywhere else.
+/// What was delivered of a lane and what its places hold make its machine. A step is at most one move of one machine.
 pub fn lanes_move_once()
     ensures stands { (ks counts : List ℕ) (depth : ℕ) (net : Network) (lane : Lane) (c : ℕ) →
         IsMachine (lane_machine ks (shape_of ks counts depth) net lane c) }
@@ -69,8 +58,7 @@ pub fn lanes_move_once()
         AreRadices ks → Sound s net → LanesAreNowhereElse ks s net }
 {}
 
-/// A packet of any class is cut by the places of its lane. Where it is open past a buffer of its route, exactly one
-/// input channel of that node is active for it, and it is at the buffer's port.
+/// A packet is cut by the places of its lane. Open past a buffer, it has one active channel, at that buffer's port.
 pub fn packets_are_cut()
     ensures list { (ks counts : List ℕ) (depth : ℕ) (net : Network) → let s = shape_of ks counts depth in
         AreRadices ks → AreChannels counts → Sound s net → PacketsHold s net → PacketsAreCut ks s net }
@@ -78,8 +66,7 @@ pub fn packets_are_cut()
         AreRadices ks → AreChannels counts → Sound s net → PacketsHold s net → OpenPacketsAreActive ks s net }
 {}
 
-/// Whatever list of steps the empty network of a mesh takes, each lane and each packet is cut by the places of its
-/// route, open packets are active, and nothing of a lane is anywhere else.
+/// Whatever steps the empty network of a mesh takes, lanes and packets stay cut by places, and open packets active.
 pub fn stays_cut()
     ensures lanes { (ks counts : List ℕ) (depth : ℕ) (steps : List Step) (new : Network)
         → let s = shape_of ks counts depth in

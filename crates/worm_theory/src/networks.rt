@@ -1,14 +1,4 @@
-//! The theory of a wormhole network with credit-based virtual channels (Dally and Towles, chapters 12, 13 and 16):
-//! what a network is, what its nine steps do, and what they keep whatever list of them is taken.
-//!
-//! A network is a record of functions of places (node, port, channel); a step changes each at one place at most, at
-//! one node or at the two ends of one link, and a lookup after it is one test. One idea carries the rest: a channel
-//! stands between two packets, or within one whose last flit so far is known, and a buffer followed by what its link
-//! holds of the channel leads from where the buffer's reader stands to where the link's writer stands. `Sound` says
-//! this and all else that each step keeps, place by place.
-//!
-//! There is no code here but functions with empty bodies, whose contracts are the theorems; crates above use the
-//! lemmas behind them. What a mesh is, is asked by six laws (`IsMesh`); arbiters, memory and time are not known here.
+//! What a network is, and what its nine steps keep, in whatever order (Dally and Towles, chapters 12, 13 and 16).
 
 ghost use Rattle.std.specs.Prelude.{◌≡◌, ℕ, List, Some, ◌++◌};
 ghost use Rattle.std.specs.Option.{option_to_list};
@@ -49,14 +39,14 @@ pub fn stays_sound()
     ensures steps { (s : Shape) → IsMesh s → AnyStepsKeep s (Sound s) }
 {}
 
-/// No buffer of a sound network holds more than its depth, and with its channel's flits on the link no more.
+/// No buffer of a sound network holds more than its depth, counted with its channel's flits on the link.
 pub fn buffers_fit()
     ensures buffers { (s : Shape) (net : Network) → Sound s net → BuffersFit s net }
     ensures links { (s : Shape) (net : Network) → Sound s net → LinksFit s net }
 {}
 
 /// The lane cut: of a lane whose class owns one channel, the flits delivered, followed by those under way from the
-/// sink back, are the flits injected, in order, each once. It stays so, whatever steps are taken.
+/// sink back, are the flits injected, in order, each once.
 pub fn lanes_stay_cut()
     ensures step { (s : Shape) → IsMesh s → EachStepKeeps s (λ net. Sound s net × LanesCut s net) }
     ensures steps { (s : Shape) → IsMesh s → AnyStepsKeep s (λ net. Sound s net × LanesCut s net) }
@@ -65,7 +55,7 @@ pub fn lanes_stay_cut()
 {}
 
 /// The packet cut: of a packet of any class, the flits delivered, followed by those at each place from the sink back,
-/// a place read as its class's channels there, are the packet's flits, in order, each once. It stays so, too.
+/// a place read as its class's channels there, are the packet's flits, in order, each once.
 pub fn packets_stay_cut()
     ensures step { (s : Shape) → IsMesh s → EachStepKeeps s (λ net. Sound s net × PacketsHold s net) }
     ensures steps { (s : Shape) → IsMesh s → AnyStepsKeep s (λ net. Sound s net × PacketsHold s net) }
@@ -73,8 +63,7 @@ pub fn packets_stay_cut()
     ensures whole { (s : Shape) (net : Network) → Sound s net → PacketsWhole net }
 {}
 
-/// After a lane's close mark nothing of it is accepted, delivered or under way, and nothing of it ever arrives. Only a
-/// lane whose class owns one channel is closed.
+/// After a lane's close mark nothing of it is accepted, delivered or under way, nor ever arrives.
 pub fn marks_come_last()
     ensures accepted { (s : Shape) (net : Network) → Sound s net → EndsAccepted net }
     ensures delivered { (s : Shape) (net : Network) → Sound s net → LanesCut s net → EndsDelivered s net }
@@ -92,8 +81,7 @@ pub fn ends_only_grow()
         → SourcesGrow old new }
 {}
 
-/// The joint worm: what left a buffer last, the buffer and its link's flits of the channel are one worm, which ends
-/// where the link's writer stands. So are a sink's flits of a channel, and what a source feeds into one.
+/// The joint worm: what left a buffer last, the buffer and its link's flits of the channel are one worm.
 pub fn links_hold_worms()
     ensures link { (s : Shape) (net : Network) → Sound s net → (y o x v : ℕ) → s.neighbour y o ≡ Some x
         → Joint s net y o x v }
@@ -114,8 +102,7 @@ pub fn records_fit_their_channels()
     ensures classes { (s : Shape) (net : Network) → Sound s net → ClassesMatch s net }
 {}
 
-/// Record agreement, read from the whole network: a packet is open past a buffer where some flit of it is delivered or
-/// nearer the sink, and its closing flit is not. Then exactly one channel there is within it.
+/// Record agreement, read from the network: where a packet is open past a buffer, exactly one channel is within it.
 pub fn records_fit_open_packets()
     ensures one { (s : Shape) (net : Network) → IsMesh s → Sound s net → PacketsHold s net → OpenOnce s net }
     ensures within { (s : Shape) (net : Network) → IsMesh s → Sound s net → PacketsHold s net → WithinIsOpen s net }

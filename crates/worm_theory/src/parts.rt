@@ -1,23 +1,4 @@
-//! A wormhole network split at its links among parts that move by themselves, and joined again (Dally and Towles,
-//! chapters 13 and 16).
-//!
-//! Each node knows only what it did itself: what it sent on its links, what arrived from them, what left its buffers.
-//! One idea carries it: each clause of a sound network speaks of one node, or of the two ends of one link. The first
-//! kind each node keeps as it is; of the second each end keeps its half, written with all that went over the link
-//! since the split. A link is a queue, so what was sent and has not arrived is what the two halves leave, and put back
-//! it makes the whole clause again.
-//!
-//! The same holds along a route: each port is a queue of a packet's flits, since they come to it on one channel, so
-//! node after node the lists join to the packet as its source accepted it.
-//!
-//! The first four functions speak of all nodes, with lists of all that came and went (`Parts`). They are the theory,
-//! and steps toward the last three, which are for code: these speak of a part as its owner keeps it, a network of
-//! which some nodes are its own (`HasPart`). The owner moves them by the network's own steps, and the lists of what
-//! came and went are hidden. A link within the part holds what is on it; one that leaves it all that was sent on it
-//! since the split; one that enters it what came off its queue and is in no buffer yet.
-//!
-//! There is no code here but functions with empty bodies, whose contracts are the theorems. Nothing is said of
-//! threads, of turns or of time.
+//! A network split at its links into parts that move by themselves, joined (Dally and Towles, chapters 13 and 16).
 
 ghost use Rattle.std.specs.Prelude.{◌≡◌, ℕ, ◌<◌, Bool, true, false, ◌==◌, List, [], ◌∷◌, ◌++◌, length, All, Some};
 ghost use Rattle.worm_flit.specs.declared.Flit.{Flit};
@@ -37,8 +18,7 @@ ghost use Rattle.worm_theory.specs.Openings.{past_of};
 ghost use Rattle.worm_theory.specs.Region.{HasPart, OwnSound, Begins};
 ghost use Rattle.worm_theory.specs.Whole.{AreQueues, whole};
 
-/// A network that is split at its links has nodes that each hold by themselves, and what each part knows of its own
-/// nodes is, taken together, known of all.
+/// The nodes of a split network hold each by itself. What parts know of their nodes is, together, known of all nodes.
 pub fn splits()
     ensures split { (s : Shape) (old : Network) → IsMesh s → Holds s old → PartHolds s old (split s old) }
     ensures gather { (s : Shape) (old : Network) (part : ℕ → Parts) → ((x : ℕ) → PartHolds s old (part x)) →
@@ -53,8 +33,7 @@ pub fn stays_in_parts()
         PartHolds s old parts → PartStepsLead s old parts steps new → PartHolds s old new }
 {}
 
-/// The nodes joined again make a network of which all holds that held at the split; its sinks and its sources have
-/// what they had then, and more.
+/// The nodes joined again make a network of which all holds that held at the split; its sinks and sources only grew.
 pub fn joins()
     ensures holds { (s : Shape) (old : Network) (parts : Parts) (flits : ℕ → ℕ → List Flit)
         (credits : ℕ → ℕ → List ℕ) → IsMesh s → Holds s old → PartHolds s old parts → IsRest s parts flits credits →
@@ -66,8 +45,7 @@ pub fn joins()
         (credits : ℕ → ℕ → List ℕ) → PartHolds s old parts → SourcesGrow old (joined_parts parts flits credits) }
 {}
 
-/// However the nodes of a network move, each by itself, and whatever then is on their links: joined they make a
-/// network of which all holds again.
+/// However the nodes move by themselves, and whatever is on their links then, the joined network holds again.
 pub fn holds_again()
     ensures { (s : Shape) (old : Network) (steps : ℕ → List PartStep) (part : ℕ → Parts) (flits : ℕ → ℕ → List Flit)
         (credits : ℕ → ℕ → List ℕ) → IsMesh s → Holds s old →
@@ -75,8 +53,9 @@ pub fn holds_again()
         Holds s (joined_parts (gathered part) flits credits) }
 {}
 
-/// A part as its owner keeps it, a network of which some nodes are its own: each step of the network at one of them
-/// keeps it, and what a step needs to know of its node it knows.
+/// A part as its owner keeps it (`HasPart`), a network of which some nodes are its own: each step at one of them
+/// keeps it, and it knows what a step needs. A link within the part holds what is on it; one that leaves it all that
+/// was sent since the split; one that enters it what came off its queue and is in no buffer yet.
 pub fn stays_a_part()
     ensures first { (s : Shape) (old : Network) (own : ℕ → Bool) (net : Network) → IsMesh s → Holds s old →
         Begins s old own net → HasPart s old own net (λ y o. []) (λ y o. []) }
@@ -100,9 +79,7 @@ pub fn stays_a_part()
         net.credit_list y o ≡ c ∷ credits → (c < s.vcs) × (net.credits y o c < s.depth) }
 {}
 
-/// Between parts go flits by queues, whose rule is that each channel is a worm from the queue's past on. What a part
-/// sends may go onto its link's queue; and a flit or a credit that comes off a queue goes to the end of what the
-/// part's link or credit line has.
+/// Parts exchange flits and credits by queues, each channel of which is a worm from the queue's past on.
 pub fn goes_between_parts()
     ensures past { (s : Shape) (old : Network) → IsMesh s → Holds s old → (y o x : ℕ) → s.neighbour y o ≡ Some x →
         (v : ℕ) → IsWorm (on_channel v (past_of s old y o x)) }
@@ -125,8 +102,7 @@ pub fn goes_between_parts()
         (put2 returned y o (returned y o ++ c ∷ [])) }
 {}
 
-/// The parts put together make a network of which all holds that held at the split; its sinks and its sources have
-/// what they had then, and more.
+/// The parts put together make a network of which all holds that held at the split; its sinks and sources only grew.
 pub fn makes_a_whole()
     ensures { (s : Shape) (old : Network) (owner : ℕ → ℕ) (net : ℕ → Network) (taken : ℕ → ℕ → ℕ → List Flit)
         (returned : ℕ → ℕ → ℕ → List ℕ) (flits : ℕ → ℕ → List Flit) (credits : ℕ → ℕ → List ℕ) → IsMesh s →

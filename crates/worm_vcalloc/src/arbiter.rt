@@ -4,12 +4,8 @@ ghost use Rattle.worm_vcalloc.specs.Arbiter.{NoRequester};
 
 use std::marker::Model;
 
-/// A round-robin arbiter over 1 to 64 lines (Dally and Towles, chapter 18).
-///
-/// The first requester at its pointer or after it, cyclically, wins; the pointer then stands one
-/// past the winner. Without a requester it stays. The lines are bits of one word, so a choice is
-/// a shift and a count of zeros. Kept is the line before the pointer, which was chosen last, if any
-/// was: so the pointer moves without a look whether it is at the end.
+/// A round-robin arbiter over 1 to 64 lines (Dally and Towles, chapter 18): the first requester at its pointer or
+/// after it, cyclically, wins. Kept is the line before the pointer, so that no move looks whether it is at the end.
 ///
 /// ```text
 /// let mut arbiter = Arbiter::new(3);
@@ -18,9 +14,7 @@ use std::marker::Model;
 /// ```
 #[derive(Clone, Copy)]
 pub struct Arbiter {
-    /// The number of lines.
     width: u8,
-    /// The line that is asked last.
     last: u8,
 }
 

@@ -7,23 +7,17 @@ use crate::channel_set::ChannelSet;
 use crate::request::VcRequests;
 use worm_flit::SmallSet;
 
-/// Files of what the input channels wait for, by the output port that they ask for and by the channels of it that will
-/// do, so that an output channel finds its requesters without a look at the others. They are made anew for each pass:
-/// to keep them up as requests come and go takes no less time over a run, and is one invariant more.
+/// What the input channels wait for, filed by output port and channel. To keep it between passes saves no time.
 #[derive(Drop)]
 pub(crate) struct Asked {
-    /// For each output port the input channels that wait for a channel of it; where it has one alone, those for which
-    /// that will do.
+    /// The input channels that ask for each output port; where a port has one channel, those for which it will do.
     by_port: [ChannelSet; 7],
-    /// For each channel the input channels for which it will do, whatever the output port; nothing where a port has one
-    /// channel alone, since the file by ports then tells all.
+    /// The input channels for which each channel will do, at any output port; nothing where a port has one channel.
     by_channel: [ChannelSet; 8],
-    /// The output ports that an input channel waits for.
     ports: SmallSet,
 }
 
 impl Asked {
-    /// Nothing is filed.
     pub(crate) fn new() -> Asked
         ensures { result ≡ record { by_port = replicate 7 0; by_channel = replicate 8 0; ports = 0 } }
     {
@@ -34,10 +28,7 @@ impl Asked {
         }
     }
 
-    /// Files each request that a router of so many ports and channels can meet, where nothing is filed yet.
-    ///
-    /// They are filed in place: filed in an array of its own and then moved in here, the words would be read 16 bytes
-    /// at a time right behind stores of 8, which a processor cannot forward.
+    /// In place: files moved in would be read 16 bytes at a time right after stores of 8, which are not forwarded.
     pub(crate) fn file(&mut self, waiting: &VcRequests, ports: u8, vcs: u8)
         requires few_ports { ports ≤ 7 }
         requires few_channels { vcs ≤ 8 }
@@ -59,14 +50,12 @@ impl Asked {
         }
     }
 
-    /// The output ports that an input channel waits for.
     pub(crate) fn ports(&self) -> SmallSet
         ensures { result ≡ self.now.ports }
     {
         self.ports
     }
 
-    /// The input channels that wait for this channel of an output port, which has so many.
     pub(crate) fn asking(&self, out: u8, channel: u8, vcs: u8) -> ChannelSet
         requires out { out < 7 }
         requires channel { channel < 8 }
@@ -84,7 +73,6 @@ impl Asked {
     }
 }
 
-/// Files an input channel for each channel that will do.
 fn file_allowed(by_channel: &mut [ChannelSet; 8], port: u8, vc: u8, allowed: SmallSet)
     requires port { port < 7 }
     requires vc { vc < 8 }

@@ -6,10 +6,7 @@ use crate::channel_set::ChannelSet;
 use crate::rows::entry;
 use std::marker::Model;
 
-/// Numbers for some channels of a router, by port and channel.
-///
-/// The set says which channels have one, and the rows are plain numbers: what a row holds at any other channel is left
-/// over, and nobody reads it. So a channel loses its number by one bit.
+/// Numbers for some channels of a router, by port and channel. One bit takes a number away; its entry is left over.
 ///
 /// ```text
 /// let mut left = map.keys();
@@ -17,9 +14,7 @@ use std::marker::Model;
 /// ```
 #[derive(Drop)]
 pub struct ChannelMap {
-    /// The numbers, by port and channel.
     numbers: [[u8; 8]; 7],
-    /// The channels that have one.
     keys: ChannelSet,
 }
 

@@ -62,8 +62,7 @@ impl ChannelSet {
         self.bits = self.bits & !(1 << place) | u64::from(within) << place;
     }
 
-    /// Puts a channel into the set where it `comes`. Where it does not, the set stays as it is, so that whoever knows
-    /// that the channel is not in the set writes one bit alone.
+    /// Puts a channel into the set where it `comes`. It takes none out, so it costs less than `put`.
     pub fn insert_if(&mut self, port: u8, channel: u8, comes: bool)
         requires port { port < 7 }
         requires channel { channel < 8 }
@@ -90,13 +89,10 @@ impl ChannelSet {
             return None;
         }
         let bit = self.bits.trailing_zeros() as u8;
-        // The number before has all the bits but the lowest.
         self.bits &= self.bits - 1;
         Some((bit / 8, bit % 8))
     }
 
-    /// The first channel at a place or after it, else the first of all, by port and channel, where a channel stands at
-    /// the place `8 * port + channel`; None where the set is empty.
     pub(crate) fn first_from(&self, place: u8) -> Option<(u8, u8)>
         requires { place ≤ 56 }
         ensures { MatchOption result (self.now ≡ 0) (λ found. IsFirstFrom self.now place found.0 found.1) }
@@ -104,15 +100,13 @@ impl ChannelSet {
         if self.bits == 0 {
             return None;
         }
-        // The bits before the place shifted out.
         let ahead = self.bits >> place << place;
         let asked = if ahead != 0 { ahead } else { self.bits };
         let bit = asked.trailing_zeros() as u8;
         Some((bit / 8, bit % 8))
     }
 
-    /// Takes out all channels of the first port that has any, and names that port; None where the
-    /// set is empty.
+    /// Takes out all channels of the first port that has any, and names that port; None where the set is empty.
     pub fn pop_port(&mut self) -> Option<u8>
         ensures { MatchOption result ((self.old ≡ 0) × (self.new ≡ 0)) (λ port. IsFirstPort self.old self.new port) }
     {
@@ -120,8 +114,7 @@ impl ChannelSet {
         Some(port)
     }
 
-    /// Takes out all channels of the first port that has any, and names that port and the lowest of them; None where
-    /// the set is empty.
+    /// As `pop_port`, but names the lowest of these channels, too.
     pub fn pop_port_lowest(&mut self) -> Option<(u8, u8)>
         ensures { MatchOption result ((self.old ≡ 0) × (self.new ≡ 0))
             (λ place. IsFirstPort self.old self.new place.0 × IsLowest self.old place.0 place.1) }

@@ -15,10 +15,7 @@ pub struct VcRequest {
     pub allowed: u8,
 }
 
-/// What the input channels wait for, by port and channel.
-///
-/// The set says which wait, so that an allocator looks at no others, and the rows are plain requests: what a row holds
-/// at any other channel is left over, and nobody reads it.
+/// What the input channels wait for, by port and channel. A row's entry at a channel that does not wait is left over.
 ///
 /// ```text
 /// let mut waiting = VcRequests::new();
@@ -26,17 +23,13 @@ pub struct VcRequest {
 /// ```
 #[derive(Drop)]
 pub struct VcRequests {
-    /// The input channels that wait.
     waiting: ChannelSet,
-    /// The requests themselves.
     table: RequestTable,
 }
 
-/// The rows of the requests. They have a struct of their own since a struct that is seen as a value cannot yet be made
-/// with an array of arrays of structs.
+/// A struct of its own: a struct that is seen as a value cannot yet be made with an array of arrays of structs.
 #[derive(Drop)]
 struct RequestTable {
-    /// By input port and channel.
     rows: [[VcRequest; 8]; 7],
 }
 
@@ -79,7 +72,6 @@ impl VcRequests {
         requests
     }
 
-    /// From now on the input channel waits for this, or for nothing.
     fn set(&mut self, port: u8, vc: u8, request: Option<VcRequest>)
         requires port { port < 7 }
         requires vc { vc < 8 }
@@ -104,8 +96,7 @@ impl VcRequests {
         }
     }
 
-    /// What an input channel that waits is waiting for: where it lies, so that a pass reads its port and its channels
-    /// one by one. Both at once would be read right behind two stores of a byte each, which a processor cannot forward.
+    /// By reference, so that a pass reads byte by byte: a read of both right after two byte stores is not forwarded.
     pub(crate) fn request(&self, port: u8, vc: u8) -> &VcRequest
         requires port { port < 7 }
         requires vc { vc < 8 }
@@ -115,8 +106,7 @@ impl VcRequests {
         &self.table.rows[port as usize][vc as usize]
     }
 
-    /// From now on the input channel waits for this. A request for a port or channel that the router does not have is
-    /// kept and never met.
+    /// The input channel waits for this. A request for a port or channel that the router lacks is kept and never met.
     pub fn add(&mut self, port: u8, vc: u8, request: VcRequest)
         requires port { port < 7 }
         requires vc { vc < 8 }

@@ -2,7 +2,6 @@
 
 ghost use Rattle.std.specs.Prelude.{◌≡◌, ◌<◌, length, None, slice_index_or};
 
-/// What a row has for a channel, if anything. A caller learns how long the row is.
 pub(crate) fn entry<T: Copy>(row: &[Option<T>; 8], channel: u8) -> Option<T>
     requires { channel < 8 }
     ensures value { result ≡ slice_index_or row.now channel None }

@@ -14,13 +14,8 @@ pub type FreeChannels = [[bool; 8]; 7];
 /// The output channel that each input channel is granted, if any, by port and channel.
 pub type VcGrants = [[Option<u8>; 8]; 7];
 
-/// The allocator of output channels to the input channels that wait for one (Dally and Towles,
-/// chapter 19).
-///
-/// Each output channel has an arbiter over the input channels, line `port * vcs + vc`. It is kept by the place of
-/// the input channel that it asks last, `8 * port + vc`, as a set of channels keeps its bits, so that it chooses from a
-/// set without a look at lines, and is kept anew without a look which place is next. Lines and places have the same
-/// order.
+/// The allocator of output channels to the input channels that wait for one (Dally and Towles, chapter 19). Each
+/// output channel's arbiter is kept as the place that it asks last. Places are bits of a set, in line order.
 ///
 /// ```text
 /// let mut alloc = VcAlloc::new(5, 2);
@@ -28,12 +23,9 @@ pub type VcGrants = [[Option<u8>; 8]; 7];
 /// ```
 #[derive(Drop)]
 pub struct VcAlloc {
-    /// The ports of the router, 1 to 7.
     ports: u8,
-    /// The channels of a port, 1 to 8.
     vcs: u8,
-    /// The place of the input channel that is asked last, for each output channel, by port and channel: the one that
-    /// was granted it last, if any was.
+    /// For each output channel, the place `8 * port + vc` of the input channel that it asks last.
     places: [[u8; 8]; 7],
 }
 
@@ -53,8 +45,7 @@ impl Model for VcAlloc {
 }
 
 impl VcAlloc {
-    /// An allocator for a router of so many ports, 1 to 7, and channels a port, 1 to 8. Its
-    /// pointers stand at the first line.
+    /// An allocator for a router of so many ports, 1 to 7, and channels a port, 1 to 8.
     pub fn new(ports: u8, vcs: u8) -> Self
         requires some_port { 0 < ports }
         requires few_ports { ports ≤ 7 }
@@ -73,8 +64,7 @@ impl VcAlloc {
         }
     }
 
-    /// One pass: each free output channel, by rising port and then channel, goes to the requester that its arbiter
-    /// picks among the input channels that may use it and have no grant yet.
+    /// One pass: each free output channel, by rising port and channel, goes to the requester that its arbiter picks.
     pub fn grant(
         &mut self,
         waiting: &[[Option<VcRequest>; 8]; 7],
@@ -94,8 +84,7 @@ impl VcAlloc {
         grants.to_rows()
     }
 
-    /// The same pass for a caller that keeps what waits: it looks at no channel that does not wait. The grants are
-    /// written into a map of the caller's, mostly an empty one.
+    /// The same pass for a caller that keeps what waits: it looks at no other channel, and adds its grants to a map.
     pub fn grant_waiting(
         &mut self,
         waiting: &VcRequests,
@@ -119,7 +108,6 @@ impl VcAlloc {
         }
     }
 
-    /// Offers the free channels of one output port, rising, whatever requests these are the files of.
     fn grant_port(&mut self, out: u8, asked: &Asked, free: &FreeChannels, grants: &mut ChannelMap)
         requires out { out < self.old.ports }
         requires filed { (waiting : List (List (Option VcRequest)))
@@ -139,7 +127,6 @@ impl VcAlloc {
         }
     }
 
-    /// Offers one free output channel to its requesters, whatever requests these are the files of.
     fn offer(&mut self, out: u8, channel: u8, asked: &Asked, grants: &mut ChannelMap)
         requires out { out < self.old.ports }
         requires channel { channel < self.old.vcs }

@@ -1,8 +1,6 @@
-//! The words of a program's command line.
+//! The words of a program's command line, with the program's own name for itself as the first.
 //!
-//! The first of them is the program's own name, as the system tells it: a path that may hold anything, also what is no
-//! text. None of it says how to run. So a program's name for itself, the one that its messages begin with, stands in
-//! its place, and only what its user gave is read.
+//! The system tells the first as a path that may hold anything, also what is no text; none of it says how to run.
 #![tactic(auto)]
 
 ghost use Rattle.std.specs.Prelude.{◌≡◌, ◌++◌, ◌≤◌, ◌↔◌, length, drop, IfOk, IsOk};
@@ -10,11 +8,9 @@ ghost use Rattle.std.specs.Prelude.{◌≡◌, ◌++◌, ◌≤◌, ◌↔◌, l
 use std::env::FillError;
 use std::rt::Env;
 
-/// A runtime whose program has this name.
+/// A runtime that tells this name as its program's, and all else as `rt` does.
 pub struct Named<'a, R> {
-    /// The runtime, which gives all words behind the name.
     rt: &'a R,
-    /// The name.
     name: &'a str,
 }
 
@@ -34,7 +30,6 @@ impl<'a, R> Named<'a, R> {
     }
 }
 
-/// Puts the bytes at the start of the buffer, and gives their number. `TooLong` where it has no room for them.
 fn put(bytes: &[u8], buf: &mut [u8]) -> Result<usize, FillError>
     ensures room { IsOk result ↔ (length bytes.now ≤ length buf.old) }
     ensures bound { IfOk result (λ n. n ≤ length buf.new) }

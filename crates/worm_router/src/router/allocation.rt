@@ -12,7 +12,6 @@ use worm_records::InRecord;
 use worm_swalloc::{Ready, SwAlloc, SwGrants, SwMatching};
 use worm_vcalloc::{ChannelMap, VcGrants};
 
-/// One pass of the switch allocator over ready channels that are known to be `apart`, or are not known to be.
 fn pass(alloc: &mut SwAlloc, ready: &Ready<'_>, apart: bool) -> SwMatching
     requires { apart ≡ true → AreApart alloc.old ready.now }
     ensures grants { result ≡ sw_grants alloc.old ready.now }
@@ -27,8 +26,7 @@ fn pass(alloc: &mut SwAlloc, ready: &Ready<'_>, apart: bool) -> SwMatching
 }
 
 impl Router {
-    /// One pass of the channel allocator over the waiting channels and the free ones. Each grant is written into
-    /// the records of the input channel and of the output channel (Dally and Towles, chapters 16 and 19).
+    /// One pass of the channel allocator; each grant goes into both records (Dally and Towles, chapters 16 and 19).
     pub fn allocate(&mut self) -> VcGrants
         ensures grants { result ≡ (channel_pass self.old).grants }
         ensures after { self.new ≡ after_allocate self.old }
@@ -71,8 +69,7 @@ impl Router {
         grants
     }
 
-    /// One pass of the switch allocator over the channels that may send now (Dally and Towles, chapter 19). The
-    /// arbiters of the granted ports move on; nothing is sent.
+    /// One pass of the switch allocator over what may send now (Dally and Towles, chapter 19). Nothing is sent.
     pub fn choose(&mut self) -> SwGrants
         ensures grants { result ≡ switch_grants self.old }
         ensures after { self.new ≡ after_choose self.old }

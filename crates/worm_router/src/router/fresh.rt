@@ -10,12 +10,10 @@ use std::alloc::{AllocError, Global};
 use worm_flit::ClassChannels;
 use worm_records::OutRecord;
 
-/// For how many records more than it has the last list of a router has room: 128 bytes that stay empty, since a
-/// processor may fetch two cache lines together. The router made next may go to another worker, and no two workers
-/// write one line.
+/// For how many records more the last list has room: 128 bytes stay empty, since a processor may fetch two cache
+/// lines together. The router made next may go to another worker, and no two workers write one line.
 const APART: usize = 32;
 
-/// So many input channels with empty buffers.
 pub(super) fn make_inputs(
     alloc: Global,
     count: usize,
@@ -30,7 +28,6 @@ pub(super) fn make_inputs(
     Ok(inputs)
 }
 
-/// So many free output channels with all their credits, and room behind them that stays empty.
 pub(super) fn make_outputs(
     alloc: Global,
     count: usize,
@@ -48,7 +45,6 @@ pub(super) fn make_outputs(
     Ok(outputs)
 }
 
-/// The channels of each class, as a bit for each. A class that is not there has none.
 pub(super) fn class_masks(classes: &ClassChannels) -> [u8; 4]
     requires { AreChannels classes.now }
     ensures { AreMasks classes.now result }

@@ -8,8 +8,7 @@ ghost use Rattle.worm_router.specs.Rest.{RoutesNothing, SendsNothing, OwesNothin
 use crate::router::Router;
 
 impl Router {
-    /// Whether a turn would leave the router as it is, as long as no flit and no credit comes. One-sided: what is at
-    /// rest may not be told so.
+    /// True only where a turn would leave the router as it is, as long as no flit and no credit comes.
     pub fn is_at_rest(&self) -> bool
         ensures { IsTrue result → IsAtRest self.now }
     {
@@ -19,15 +18,12 @@ impl Router {
             && self.owes_nothing()
     }
 
-    /// Whether each channel with a flit has its route.
     fn routes_nothing(&self) -> bool
         ensures { IsTrue result → RoutesNothing self.now }
     {
         self.unrouted().is_empty()
     }
 
-    /// Whether a pass for output channels would do nothing: no channel waits, or it is known that none of those that
-    /// wait asks for a free one.
     pub(super) fn allocates_nothing(&self) -> bool
         ensures asked { IsTrue result → GrantsNothing (requests self.now) (free_channels self.now) }
         ensures after { IsTrue result → after_allocate self.now ≡ self.now }
@@ -44,7 +40,6 @@ impl Router {
         self.busy.ready().is_empty()
     }
 
-    /// Whether no input channel owes a credit.
     fn owes_nothing(&self) -> bool
         ensures { IsTrue result → OwesNothing self.now }
     {
