@@ -63,12 +63,12 @@ impl Model for Mesh {
     ghost inverse = { λ ks. record { radices = filled_up ks; dims = length ks } };
 
     ghost inverse_ok = { λ m h.
-      let three = h.three in
-      let dims_fit = h.dims_fit in
-      let counted : length (take m.dims m.radices) ≡ m.dims = Prim.simp length-take (Prim.omega arith) in
-      let filled : filled_up (take m.dims m.radices) ≡ m.radices
+        let three = h.three in
+        let dims_fit = h.dims_fit in
+        let counted : length (take m.dims m.radices) ≡ m.dims = Prim.simp length-take (Prim.omega arith) in
+        let filled : filled_up (take m.dims m.radices) ≡ m.radices
         = Prim.rw (counted, ← h.filled) (take-append-drop m.dims m.radices) in
-      Prim.rw (filled, counted) refl };
+        Prim.rw (filled, counted) refl };
 }
 
 fn are_radices(radices: &[u8]) -> bool

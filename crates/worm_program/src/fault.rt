@@ -22,9 +22,7 @@ pub enum ProgramFault {
     /// There was no memory, and no writer failed.
     NoMemory,
     /// The thread of this worker, counted from 0, could not be started.
-    NotStarted {
-        worker: usize,
-    },
+    NotStarted { worker: usize },
     /// The writer failed or took nothing: a first part of the report has gone out.
     Write,
 }

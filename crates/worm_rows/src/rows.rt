@@ -18,10 +18,7 @@ pub enum Load {
     /// It was the mark that closes its lane.
     Close,
     /// A word of its packet: its place there, 0 to 31, and its 32 bits.
-    Word {
-        index: u8,
-        word: u32,
-    },
+    Word { index: u8, word: u32 },
 }
 
 /// What a line says.

@@ -42,7 +42,5 @@ pub enum RunFault {
     /// There was no memory for the parts; the network as handed in.
     NoMemory(Net),
     /// The thread of this worker, counted from 0, did not start. Those after it did, and ended; their parts are gone.
-    NotStarted {
-        worker: usize,
-    },
+    NotStarted { worker: usize },
 }

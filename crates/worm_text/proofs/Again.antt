@@ -77,7 +77,7 @@ radices_again radices (k ∷ ks) rest each few =
     let others = All-tail (IsBetween 2 16) k ks each in
     let shift : (radices ++ k ∷ []) ++ ks ≡ radices ++ k ∷ ks = append_assoc radices (k ∷ []) ks in
     let few2 : node_count ((radices ++ k ∷ []) ++ ks) ≤ 256
-      = subst (λ (x : List ℕ). node_count x ≤ 256) (sym shift) few in
+    = subst (λ (x : List ℕ). node_count x ≤ 256) (sym shift) few in
     let few1 = nodes_front (radices ++ k ∷ []) ks (λ i d lt. omega (arith, (others i d lt).0)) few2 in
     let a = bind_at_ok (number_at 2 16 (decimal k ∷ (map decimal ks ++ rest)))
     (λ k. widened radices k.0 >>= λ more. radices_at (length ks) more k.1) (

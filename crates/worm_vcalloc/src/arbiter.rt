@@ -35,18 +35,18 @@ impl Model for Arbiter {
     ghost inverse = { λ v. record { width = v.width; last = last_of v } };
 
     ghost inverse_ok = { λ a h.
-      let inside = h.0 in
-      let again : last_of (asking_last a.width a.last) ≡ a.last = elim (cases_eq (a.last + 1) a.width) [
-        | inl end ↦
-            let first : (a.last + 1) % a.width ≡ 0 = ap (λ n. n % a.width) end ∙ mod_self a.width in
-            let back : (a.last + 1) % a.width + a.width - 1 ≡ a.last = Prim.omega arith in
-            ap (λ n. n % a.width) back ∙ mod-eq_of_lt inside
-        | inr other ↦
-            let next : (a.last + 1) % a.width ≡ a.last + 1 = mod-eq_of_lt (Prim.omega arith) in
-            let round : (a.last + 1) % a.width + a.width - 1 ≡ 1 * a.width + a.last = Prim.omega arith in
-            ap (λ n. n % a.width) round ∙ mod-mul-add 1 a.width a.last inside
-      ] in
-      Prim.rw again refl };
+        let inside = h.0 in
+        let again : last_of (asking_last a.width a.last) ≡ a.last = elim (cases_eq (a.last + 1) a.width) [
+          | inl end ↦
+              let first : (a.last + 1) % a.width ≡ 0 = ap (λ n. n % a.width) end ∙ mod_self a.width in
+              let back : (a.last + 1) % a.width + a.width - 1 ≡ a.last = Prim.omega arith in
+              ap (λ n. n % a.width) back ∙ mod-eq_of_lt inside
+          | inr other ↦
+              let next : (a.last + 1) % a.width ≡ a.last + 1 = mod-eq_of_lt (Prim.omega arith) in
+              let round : (a.last + 1) % a.width + a.width - 1 ≡ 1 * a.width + a.last = Prim.omega arith in
+              ap (λ n. n % a.width) round ∙ mod-mul-add 1 a.width a.last inside
+        ] in
+        Prim.rw again refl };
 }
 
 impl Arbiter {
