@@ -75,7 +75,7 @@ module _ (stop pass : ℕ → ℕ → Type 0) (script : List Entry) (turns : ℕ
       (fault_of_stop (worked_at done w).stop)
       did.ends)
 
-  first_part : (w : ℕ) → w < workers → IsFirstPart old workers w split.lines (part_at parts w)
+  first_part : (w : ℕ) → w < workers → IsFirstPart old workers w split.pairs (part_at parts w)
   first_part w below = split.each w below
 
   pub opened : (w : ℕ) → w < workers → (part_at moved w).opening ≡ old
