@@ -1,3 +1,4 @@
+pub mod Pieces
 mod Taken
 mod Shown
 mod InMesh
@@ -6,3 +7,5 @@ mod Names
 mod Tails
 mod Counted
 mod Moving
+mod Listed
+mod Padded

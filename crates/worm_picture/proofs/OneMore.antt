@@ -1,19 +1,13 @@
 -- One port, one channel or one node more.
 use Rattle.std.proofs.Common.{◌≡◌, ◌<◌, ◌+◌, ℕ, List, [], ◌∷◌, ◌++◌, map, length, get_or, take, flat_map, sym, ap}
-use Rattle.std.proofs.Common.{◌∙◌, map-id, arith}
+use Rattle.std.proofs.Common.{◌∙◌}
 use Rattle.std.specs.List.{range_with_len}
 use Rattle.std.proofs.lemmas.List.{flat_map_more, map_push, take_more}
-use Rattle.std.proofs.lemmas.List.FromFn.{map-range_with_len_more}
 use Rattle.worm_picture.specs.declared.scene.Spot.{Spot}
 use Rattle.worm_picture.specs.declared.views.Station.{Station}
 use Rattle.worm_picture.specs.declared.views.NodeView.{NodeView}
 use Rattle.worm_picture.specs.Nodes.{spots_at, spots_in}
-
-range_more : (n : ℕ) → range_with_len 0 (n + 1) ≡ range_with_len 0 n ++ n ∷ []
-range_more n =
-    let sum : 0 + n ≡ n = omega arith in
-    sym (map-id (range_with_len 0 (n + 1))) ∙ map-range_with_len_more (λ (k : ℕ). k) 0 n n sum
-    ∙ ap (λ l. l ++ n ∷ []) (map-id (range_with_len 0 n))
+use Rattle.worm_picture.proofs.Pieces.{range_more}
 
 pub one_port_more : (node n vcs : ℕ) (spots more new : List Spot) → new ≡ spots ++ more
     → spots ≡ spots_in node n vcs → more ≡ spots_at node vcs n

@@ -24,6 +24,7 @@ use Rattle.worm_picture.specs.Scene.{spot_at, same, is_on, is_part, flits_at, fl
 use Rattle.worm_picture.specs.Scene.{in_order, front_first, parted_flit, seen_flits, with_parts}
 use Rattle.worm_picture.specs.Nodes.{spots_at, spots_in, IsStation, IsView, HasSpot, station_flits}
 use Rattle.worm_picture.specs.Nodes.{AreViews, view_flits, shown}
+use Rattle.worm_picture.specs.Map.{MapsRows, map_text}
 use Rattle.worm_picture.specs.Packets.{tail_in, tail_of}
 use Rattle.worm_picture.specs.Picture.{PicturesFlits, PicturesRows}
 use Rattle.worm_picture.specs.declared.packets.Packets.{Packets}
@@ -232,3 +233,18 @@ drawn_rows bytes (Ok text) as_map s rows packets views drawn same_views tails ar
     λ asked. pictures_rows s rows packets views (bytes text) tails are once
     (subst (λ (l : List NodeView). PicturesFlits (bytes text) (tail_in packets) (shown l)) same_views pictured)
 drawn_rows bytes (Err e) as_map s rows packets views drawn same_views tails are once pictured = tt
+
+pub mapped_rows : {X E : Type 0} (bytes : X → List ℕ) (r : Result X E) (as_map : Bool) (s : Shape) (depth : ℕ)
+    (rows : List Row) (packets : Packets) (views drawn : List NodeView) → drawn ≡ views
+    → ((packet : PacketId) → tail_in packets packet ≡ tail_of rows packet) → AreViews s rows (tail_in packets) views
+    → (IsReport s rows → IsPermutation (seen_flits s.mesh rows) (shown views))
+    → IfOk r (λ text. bytes text ≡ map_text s.mesh depth drawn)
+    → IfOk r (λ text. as_map ≡ true → MapsRows s depth rows (bytes text))
+mapped_rows bytes (Ok text) as_map s depth rows packets views drawn same_views tails are once is =
+    λ asked. record {
+      views = views;
+      are_views = subst (λ (t : PacketId → ℕ). AreViews s rows t views) (λ i packet. tails packet i) are;
+      once = once;
+      text_is = is ∙ ap (map_text s.mesh depth) same_views;
+    }
+mapped_rows bytes (Err e) as_map s depth rows packets views drawn same_views tails are once is = tt

@@ -5,3 +5,4 @@ pub mod Ways
 pub mod Picture
 pub mod Packets
 pub mod Signs
+pub mod Map

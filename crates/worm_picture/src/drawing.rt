@@ -1,6 +1,7 @@
 //! A drawing of a report's rows.
 
-ghost use Rattle.std.specs.Prelude.{◌≡◌, IfOk, false, string_bytes};
+ghost use Rattle.std.specs.Prelude.{◌≡◌, IfOk, false, string_bytes, true};
+ghost use Rattle.worm_picture.specs.Map.{MapsRows};
 ghost use Rattle.worm_picture.specs.Picture.{PicturesRows};
 
 use crate::map::map;
@@ -10,7 +11,7 @@ use crate::views::node_views;
 use std::alloc::{AllocError, Global};
 use worm_rows::{Row, Shape};
 
-/// The picture of these rows, of a network of this shape with buffers of `depth` flits, 1 to 16; or, unproved, a map.
+/// The picture of these rows, of a network of this shape with buffers of `depth` flits, 1 to 16; or a map.
 pub fn draw(
     alloc: Global,
     shape: &Shape,
@@ -18,7 +19,9 @@ pub fn draw(
     rows: &[Row],
     as_map: bool,
 ) -> Result<String, AllocError>
-    ensures { IfOk result (λ drawing. as_map ≡ false → PicturesRows shape.now rows.now (string_bytes drawing)) }
+    ensures picture { IfOk result
+        (λ drawing. as_map ≡ false → PicturesRows shape.now rows.now (string_bytes drawing)) }
+    ensures map { IfOk result (λ drawing. as_map ≡ true → MapsRows shape.now depth rows.now (string_bytes drawing)) }
 {
     let packets = Packets::of(alloc, rows)?;
     let views = node_views(alloc, shape, rows, &packets)?;

@@ -1,5 +1,8 @@
 //! Where things stand in the picture, in units of its user space.
 
+ghost use Rattle.std.specs.Prelude.{◌≡◌};
+ghost use Rattle.worm_picture.specs.Map.{digit_at, radix_at};
+
 use worm_mesh::Mesh;
 
 /// The length and the width of a flit's slot.
@@ -108,7 +111,9 @@ pub fn step(others: u32, room: u32, most: u32) -> u32 {
 }
 
 /// A digit of a node's address, 0 in a dimension that the mesh does not have.
-pub fn digit(mesh: &Mesh, node: u8, dim: u8) -> u8 {
+pub fn digit(mesh: &Mesh, node: u8, dim: u8) -> u8
+    ensures { result ≡ digit_at mesh.now node dim }
+{
     if dim < mesh.dims() && u16::from(node) < mesh.nodes() {
         mesh.digit(node, dim)
     } else {
@@ -117,7 +122,9 @@ pub fn digit(mesh: &Mesh, node: u8, dim: u8) -> u8 {
 }
 
 /// The radix of a dimension, 1 where the mesh does not have it.
-pub fn radix(mesh: &Mesh, dim: u8) -> u8 {
+pub fn radix(mesh: &Mesh, dim: u8) -> u8
+    ensures { result ≡ radix_at mesh.now dim }
+{
     if dim < mesh.dims() {
         mesh.radix(dim)
     } else {

@@ -1,8 +1,8 @@
 //! The picture of a report: a network's flits and counts at the end of a run, as SVG or as a map for a terminal.
 //!
 //! Proved is which flits are shown at which node, in its buffers and on the links to it, in three groups (`views`);
-//! what hovering over a flit says (`titles`); and that the picture's text has just these flits (`picture`). Not
-//! proved is how they look and where they stand, what else is drawn, and the text of the map.
+//! what hovering over a flit says (`titles`); that the picture's text has just these flits (`picture`); and the whole
+//! text of the map (`map`). Not proved is how flits look and where they stand in a picture, and what else is drawn.
 #![tactic(auto)]
 
 mod counts;

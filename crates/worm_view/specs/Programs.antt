@@ -8,6 +8,7 @@ use Rattle.worm_view.specs.declared.form.Form.{Form}
 use Rattle.worm_view.specs.declared.form.Form.TheVariants.{Picture, Map, Waits}
 use Rattle.worm_view.specs.declared.fault.ViewFault.{ViewFault}
 use Rattle.worm_view.specs.declared.fault.ViewFault.TheVariants as f
+use Rattle.worm_picture.specs.Map.{MapsRows}
 use Rattle.worm_picture.specs.Picture.{PicturesRows}
 use Rattle.worm_waits.specs.Text.{TellsWaits}
 use Rattle.worm_text.specs.Whole.{GaveFront, GaveWhole, IsWhole}
@@ -47,10 +48,10 @@ pub record Accepts (network report : List ℕ) : Type 0 where
   pub rows : List Row
   pub accepted : IsAccepted network report said shape rows
 
--- what a drawing of a report shows: a picture its flits, and the waits who waits for whom; of a map nothing is told
+-- what a drawing of a report shows: a picture its flits, a map where they are, and the waits who waits for whom
 abbrev pub IsDrawn : Form → Network → Shape → List Row → List ℕ → Type 0
 IsDrawn Picture n s rows drawing = PicturesRows s rows drawing
-IsDrawn Map n s rows drawing = Unit {0}
+IsDrawn Map n s rows drawing = MapsRows s n.depth rows drawing
 IsDrawn Waits n s rows drawing = TellsWaits s n.channels n.depth rows drawing
 
 -- both texts are accepted, and this is drawn of them

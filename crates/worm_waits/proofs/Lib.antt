@@ -1,3 +1,2 @@
-mod Pieces
 mod Following
 mod Telling

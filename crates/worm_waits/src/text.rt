@@ -85,16 +85,6 @@ fn add_waits(text: &mut String, waits: &[Wait]) -> Result<(), AllocError>
     Ok(())
 }
 
-fn add_name(text: &mut String, packet: PacketId) -> Result<(), AllocError>
-    ensures { OnOk result (string_bytes text.new ≡ string_bytes text.old ++ spec.packet_text packet) }
-{
-    let src = packet.lane.src;
-    let dst = packet.lane.dst;
-    let class = packet.lane.class;
-    let number = packet.number;
-    write!(text, "lane {src} to {dst} class {class} packet {number}")
-}
-
 fn add_next(text: &mut String, packet: PacketId) -> Result<(), AllocError>
     ensures { OnOk result (string_bytes text.new ≡ string_bytes text.old ++ spec.next_text packet) }
 {
@@ -122,7 +112,10 @@ fn add_behind(text: &mut String, waits: &[Wait], wait: &Wait) -> Result<(), Allo
 fn add_chain(text: &mut String, waits: &[Wait], wait: &Wait) -> Result<(), AllocError>
     ensures { OnOk result (string_bytes text.new ≡ string_bytes text.old ++ spec.chain_line waits.now wait.now) }
 {
-    add_name(text, wait.flit.packet)?;
+    let name = Name {
+        packet: wait.flit.packet,
+    };
+    write!(text, "{name}")?;
     add_behind(text, waits, wait)?;
     put(text, "\n")
 }

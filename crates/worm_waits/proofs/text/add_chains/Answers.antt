@@ -1,6 +1,6 @@
 use Rattle.std.proofs.Common.{◌-◌, ℕ, length, flat_map, string_bytes}
 use Rattle.worm_waits.specs.Text.{line_if_of}
-use Rattle.worm_waits.proofs.Pieces.{one_number_more}
+use Rattle.worm_picture.proofs.Pieces.{one_number_more}
 use Rattle.worm_waits.proofs.text.add_chains.Goals as goal
 
 pub loop-less-preserved : goal.loop-less-preserved

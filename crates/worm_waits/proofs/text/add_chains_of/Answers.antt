@@ -1,6 +1,6 @@
 use Rattle.std.proofs.Common.{rules, ◌<◌, length, refl, string_bytes}
 use Rattle.worm_waits.specs.Text.{line_if_of}
-use Rattle.worm_waits.proofs.Pieces.{one_piece_more}
+use Rattle.worm_picture.proofs.Pieces.{one_piece_more}
 use Rattle.worm_waits.proofs.text.add_chains_of.Goals as goal
 
 pub loop-chain-preserved : goal.loop-chain-preserved

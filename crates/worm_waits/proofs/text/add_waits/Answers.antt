@@ -1,6 +1,6 @@
 use Rattle.std.proofs.Common.{rules, ◌<◌, length, refl, string_bytes}
 use Rattle.worm_waits.specs.Text.{wait_line}
-use Rattle.worm_waits.proofs.Pieces.{one_piece_more}
+use Rattle.worm_picture.proofs.Pieces.{one_piece_more}
 use Rattle.worm_waits.proofs.text.add_waits.Goals as goal
 
 pub loop-wait-preserved : goal.loop-wait-preserved

@@ -1,4 +1,4 @@
-use Rattle.std.proofs.Common.{rules, ◌≡◌, ◌<◌, ◌+◌, ◌-◌, ◌^◌, ◌&&◌, ◌||◌, Bool, not, cond, List, Some, None, length}
+use Rattle.std.proofs.Common.{rules, ◌<◌, ◌+◌, ◌-◌, ◌^◌, ◌&&◌, ◌||◌, Bool, not, cond, List, Some, None, length}
 use Rattle.std.proofs.Common.{min}
 use Rattle.std.proofs.Common.{take, ap, ◌∙◌}
 use Rattle.worm_rows.specs.declared.rows.PacketId.{PacketId}

@@ -1,7 +1,7 @@
 use Rattle.std.proofs.Common.{rules, ◌≡◌, ◌<◌, ◌++◌, List, [], length, get_or, ap, ◌∙◌}
 use Rattle.worm_waits.specs.declared.waits.Wait.{Wait}
 use Rattle.worm_waits.specs.Waits.{told, waits_in}
-use Rattle.worm_waits.proofs.Pieces.{one_piece_more}
+use Rattle.worm_picture.proofs.Pieces.{one_piece_more}
 use Rattle.worm_waits.proofs.scene.Scene.waits_of.Goals as goal
 
 pub loop-view-preserved : goal.loop-view-preserved
