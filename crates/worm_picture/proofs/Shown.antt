@@ -223,28 +223,28 @@ pictures_rows s rows packets views text tails are once pictured =
       pictured = subst (λ (t : PacketId → ℕ). PicturesFlits text t (shown views)) same pictured;
     }
 
-pub drawn_rows : {X E : Type 0} (bytes : X → List ℕ) (r : Result X E) (as_map : Bool) (s : Shape) (rows : List Row)
+pub drawn_rows : {X E : Type 0} (bytes : X → List ℕ) (r : Result X E) (s : Shape) (rows : List Row)
     (packets : Packets) (views drawn : List NodeView) → drawn ≡ views
     → ((packet : PacketId) → tail_in packets packet ≡ tail_of rows packet) → AreViews s rows (tail_in packets) views
     → (IsReport s rows → IsPermutation (seen_flits s.mesh rows) (shown views))
     → IfOk r (λ text. PicturesFlits (bytes text) (tail_in packets) (shown drawn))
-    → IfOk r (λ text. as_map ≡ false → PicturesRows s rows (bytes text))
-drawn_rows bytes (Ok text) as_map s rows packets views drawn same_views tails are once pictured =
-    λ asked. pictures_rows s rows packets views (bytes text) tails are once
+    → IfOk r (λ text. PicturesRows s rows (bytes text))
+drawn_rows bytes (Ok text) s rows packets views drawn same_views tails are once pictured =
+    pictures_rows s rows packets views (bytes text) tails are once
     (subst (λ (l : List NodeView). PicturesFlits (bytes text) (tail_in packets) (shown l)) same_views pictured)
-drawn_rows bytes (Err e) as_map s rows packets views drawn same_views tails are once pictured = tt
+drawn_rows bytes (Err e) s rows packets views drawn same_views tails are once pictured = tt
 
-pub mapped_rows : {X E : Type 0} (bytes : X → List ℕ) (r : Result X E) (as_map : Bool) (s : Shape) (depth : ℕ)
+pub mapped_rows : {X E : Type 0} (bytes : X → List ℕ) (r : Result X E) (s : Shape) (depth : ℕ)
     (rows : List Row) (packets : Packets) (views drawn : List NodeView) → drawn ≡ views
     → ((packet : PacketId) → tail_in packets packet ≡ tail_of rows packet) → AreViews s rows (tail_in packets) views
     → (IsReport s rows → IsPermutation (seen_flits s.mesh rows) (shown views))
     → IfOk r (λ text. bytes text ≡ map_text s.mesh depth drawn)
-    → IfOk r (λ text. as_map ≡ true → MapsRows s depth rows (bytes text))
-mapped_rows bytes (Ok text) as_map s depth rows packets views drawn same_views tails are once is =
-    λ asked. record {
+    → IfOk r (λ text. MapsRows s depth rows (bytes text))
+mapped_rows bytes (Ok text) s depth rows packets views drawn same_views tails are once is =
+    record {
       views = views;
       are_views = subst (λ (t : PacketId → ℕ). AreViews s rows t views) (λ i packet. tails packet i) are;
       once = once;
       text_is = is ∙ ap (map_text s.mesh depth) same_views;
     }
-mapped_rows bytes (Err e) as_map s depth rows packets views drawn same_views tails are once is = tt
+mapped_rows bytes (Err e) s depth rows packets views drawn same_views tails are once is = tt

@@ -20,7 +20,7 @@ mod titles;
 mod views;
 mod ways;
 
-pub use drawing::draw;
+pub use drawing::{draw_map, draw_picture};
 pub use packets::{Packet, Packets};
 pub use scene::{Flit, Spot, exit_port};
 pub use views::{NodeView, Station, node_views};

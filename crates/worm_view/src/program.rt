@@ -15,7 +15,7 @@ use std::alloc::{AllocError, Global};
 use std::io::{Read, Write};
 use worm_core::Config;
 use worm_flit::ClassChannels;
-use worm_picture::draw;
+use worm_picture::{draw_map, draw_picture};
 use worm_report::write_bytes;
 use worm_rows::{Row, Shape, read_report};
 use worm_text::{ReadFault, Why, read_network, read_text};
@@ -121,8 +121,8 @@ fn drawn(alloc: Global, accepted: &Accepted, form: Form) -> Result<String, Alloc
     let depth = accepted.config.depth;
     let rows = accepted.rows.as_slice();
     match form {
-        Form::Picture => draw(alloc, &accepted.shape, depth, rows, false),
-        Form::Map => draw(alloc, &accepted.shape, depth, rows, true),
+        Form::Picture => draw_picture(alloc, &accepted.shape, depth, rows),
+        Form::Map => draw_map(alloc, &accepted.shape, depth, rows),
         Form::Waits => waits_of(alloc, accepted),
     }
 }

@@ -12,7 +12,7 @@ use std::io;
 use std::io::{ErrorKind, Read, Write};
 use std::process::Abort;
 use worm_cases::{TWO_NODES, Taking};
-use worm_picture::draw;
+use worm_picture::{draw_map, draw_picture};
 use worm_text::{TextFault, Why};
 use worm_view::{Accepted, Form, ViewFault, accept, run_view};
 
@@ -84,7 +84,12 @@ pub fn drawing(rt: &impl Abort, alloc: Global, text: bool) -> String {
 fn drawing_of(rt: &impl Abort, alloc: Global, report: &[u8], text: bool) -> String {
     let accepted = accepted(rt, alloc, report);
     let rows = accepted.rows.as_slice();
-    let drawn = draw(alloc, &accepted.shape, accepted.config.depth, rows, text);
+    let depth = accepted.config.depth;
+    let drawn = if text {
+        draw_map(alloc, &accepted.shape, depth, rows)
+    } else {
+        draw_picture(alloc, &accepted.shape, depth, rows)
+    };
     drawn.expect(rt, "a drawing")
 }
 
