@@ -11,6 +11,7 @@ loop-station-preserved c =
     let station = c.station-item.result in
     let within : c.loop-station.station-index < length c.args.stations.now = search rules in
     let same : station ≡ get_or c.args.stations.now c.loop-station.station-index station = search rules in
-    lists_one_more c.args.mesh.now (if_with c.args.count) c.args.room c.loop-station.left _ c.loop-station.station-index station station
-    c.args.stations.now (string_bytes c.args.map.now) (string_bytes c.loop-station.map) (string_bytes c.add_if_with.new.map)
-    within same c.loop-station.invariant c.in_ok-left.ensures
+    lists_one_more c.args.mesh.now (if_with c.args.count) c.args.room c.loop-station.left _
+    c.loop-station.station-index station station c.args.stations.now (string_bytes c.args.map.now)
+    (string_bytes c.loop-station.map) (string_bytes c.add_if_with.new.map) within same
+    c.loop-station.invariant c.in_ok-left.ensures
