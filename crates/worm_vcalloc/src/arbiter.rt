@@ -79,13 +79,16 @@ impl Arbiter {
         ensures within { IfSome result (λ line. line < self.now.width) }
     {
         let ahead = requests >> self.last >> 1;
-        if ahead != 0 {
-            return Some(self.last + 1 + ahead.trailing_zeros() as u8);
-        }
         if requests == 0 {
             return None;
         }
-        Some(requests.trailing_zeros() as u8)
+        // Both ways are worked out and one is kept: which it is no processor guesses well.
+        let (among, before) = if ahead != 0 {
+            (ahead, self.last + 1)
+        } else {
+            (requests, 0)
+        };
+        Some(before + among.trailing_zeros() as u8)
     }
 
     /// Moves the pointer past a line, as `pick` does where it chooses that line.

@@ -296,6 +296,7 @@ impl Links {
     }
 
     /// Puts the flit at the end of the link out of this port.
+    #[inline(always)]
     pub fn push(&mut self, node: u8, port: u8, flit: Flit)
         requires linked { IsSome (neighbour_of self.old.mesh node port) }
         requires room { length (state_at self.old (number_out self.old node port)).flits
