@@ -1,3 +1,4 @@
 pub mod MadeGroups
 pub mod Pushed
 pub mod Sent
+pub mod ToFeed

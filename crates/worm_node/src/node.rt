@@ -4,10 +4,10 @@ ghost use Rattle.std.specs.Prelude.{ℕ, true, false, ◌≡◌, ◌<◌, Some, 
 ghost use Rattle.std.specs.Prelude.{if◌then◌else◌};
 ghost use Rattle.worm_router.specs.Router.{IsPlace, terminal, leaving};
 ghost use Rattle.worm_term.specs.Source.{classes, front_of};
-ghost use Rattle.worm_node.specs.Node.{FrontFits, can_enter, delivered_node};
+ghost use Rattle.worm_node.specs.Node.{AreToFeed, FrontFits, can_enter, delivered_node};
 ghost use Rattle.worm_node.specs.Node.{fed_node};
 
-use worm_flit::Flit;
+use worm_flit::{Flit, SmallSet};
 use worm_router::Router;
 use worm_term::{Sink, Source};
 
@@ -23,7 +23,8 @@ pub struct Node {
 }
 
 impl Node {
-    /// Moves the source's next flit of the class into the injection buffer, where there is one and that has room.
+    /// Moves the source's next flit of the class into the injection buffer, where there is one and that has room. Where
+    /// it has none the router keeps that.
     pub fn feed(&mut self, class: u8, port: u8) -> bool
         requires same { self.old.source.channels ≡ self.old.router.channels }
         requires class { class < classes self.old.source }
@@ -38,6 +39,7 @@ impl Node {
             return false;
         };
         if !self.router.has_room(port, vc) {
+            self.router.keep_full(class);
             return false;
         }
         let Some(flit) = self.source.front(class) else {
@@ -59,6 +61,15 @@ impl Node {
             None => false,
             Some(vc) => self.router.has_room(port, vc),
         }
+    }
+
+    /// The classes of which the source has a flit that was not fed, but for those whose injection buffer is known to be
+    /// full.
+    pub fn unfed(&self) -> SmallSet
+        requires { self.now.source.channels ≡ self.now.router.channels }
+        ensures { AreToFeed self.now result }
+    {
+        self.router.unfilled(self.source.unfed())
     }
 
     /// Lets the flit that is ready at this place out into the sink, if the sink can take it.

@@ -14,11 +14,11 @@ use Rattle.worm_theory.specs.Steps.{Feed}
 use Rattle.worm_router.specs.Router.{ChannelState, RouterState, after_accept, fresh_channel, input_at, line, put_in}
 use Rattle.worm_router.specs.Router.{terminal}
 use Rattle.worm_term.specs.Queue.{QueueState, empty_queue, one_fed, waiting}
-use Rattle.worm_term.specs.Source.{AreUnfed, SourceState, after_fed, front_of, queue_at}
+use Rattle.worm_term.specs.Source.{SourceState, after_fed, front_of, queue_at}
 use Rattle.worm_region.specs.Shape.{net_shape}
 use Rattle.worm_node.specs.NewNodes.{fresh_node}
 use Rattle.worm_region.specs.State.{NetState, node_at, router_at, source_at, with_node}
-use Rattle.worm_node.specs.Node.{can_enter, fed_node}
+use Rattle.worm_node.specs.Node.{AreToFeed, can_enter, fed_node}
 use Rattle.worm_region.specs.Moves.{Covers, NoFeed}
 use Rattle.worm_region.specs.Workable.{IsWorkable}
 use Rattle.worm_region.specs.Replies.{Replies}
@@ -105,30 +105,22 @@ classes x = record {
   still = λ s k net x_in k_in none. feed_still s x k net x_in k_in none;
 }
 
-none_enters : (r : RouterState) (t : SourceState) (k : ℕ) → is_some (waiting (queue_at t k)) ≡ false
-    → can_enter r (terminal r) (front_of t k) ≡ false
-none_enters r t k none = by (waiting (queue_at t k)) none where
-  by : (o : Option Flit) → is_some o ≡ false
-      → can_enter r (terminal r) (option_map (λ f. with_channel f (first_channel t.channels k)) o) ≡ false
-  by None none = refl
-  by (Some f) none = absurd (cc)
-
 -- the set of the classes that are tried
 pub unfed_cover : (s : NetState) (x set : ℕ) → IsWorkable s → x < node_count s.mesh
-    → AreUnfed (source_at s x).queues set → Covers (NoFeed s x) (length s.channels) set
-unfed_cover s x set net x_in unfed =
+    → AreToFeed (node_at s x) set → Covers (NoFeed s x) (length s.channels) set
+unfed_cover s x set net x_in feeds =
     let all = net.framed.all_nodes in
     let node = net.framed.each_node x (omega arith) in
     let source = source_at s x in
     let queues : length source.queues ≡ length s.channels =
     node.source_holds.all_queues ∙ ap (λ (counts : List ℕ). length counts) node.source_channels in
     record {
-      rest = λ k k_few k_in off. none_enters (router_at s x) source k (sym (unfed k k_few) ∙ off);
+      rest = λ k k_few k_in off. feeds.rest k k_few off;
       places = λ k k_few on. elim (cases_lt k (length s.channels)) [
         | inl below ↦ below
         | inr above ↦
             let past = get_or_past source.queues k empty_queue (omega arith) in
-            let one = sym (unfed k k_few) ∙ on in
+            let one = feeds.some k k_few on in
             absurd (let gone = sym (ap (λ (a : QueueState). is_some (waiting a)) past) ∙ one in cc)
       ];
     }

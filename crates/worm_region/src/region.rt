@@ -189,7 +189,7 @@ impl Region {
         ensures classes { Covers (NoFeed self.now node) (length self.now.channels) result }
         ensures sound { IsWorkable self.now }
     {
-        self.fabric.node(node).source.unfed()
+        self.fabric.node(node).unfed()
     }
 
     /// The channels of the node that owe a credit.

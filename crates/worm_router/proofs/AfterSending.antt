@@ -1,9 +1,10 @@
 -- What a flit that left leaves of all that a router keeps.
 use Rattle.std.proofs.Common.{ℕ, ◌+◌, ◌-◌, ◌*◌, ◌≤◌, ◌<◌, ◌≡◌, ◌&&◌, ◌||◌, nat_lt, Bool, true, false, not}
 use Rattle.std.proofs.Common.{Option, None, Some, slice_set, slice_index_or, get_or, length, List, if◌then◌else◌}
-use Rattle.std.proofs.Common.{arith, inl, refl, ap, sym, subst, ◌∙◌}
+use Rattle.std.proofs.Common.{arith, inl, refl, ap, sym, subst, ◌∙◌, ◌==◌}
 use Rattle.std.proofs.lemmas.List.Elements.{All-set, All-get_or}
 use Rattle.worm_flit.specs.declared.Flit.{Flit}
+use Rattle.worm_flit.specs.Channels.{owner_of}
 use Rattle.worm_records.specs.declared.InRecord.TheVariants.{Idle, Active}
 use Rattle.worm_records.specs.declared.OutRecord.{OutRecord}
 use Rattle.worm_vcalloc.specs.ChannelSet.{has}
@@ -12,7 +13,7 @@ use Rattle.worm_router.specs.declared.busy.BusyChannels.{BusyChannels}
 use Rattle.worm_router.specs.Router.{RouterState, ChannelState, IsChannel, IsPlace, terminal, width, line, in_state}
 use Rattle.worm_router.specs.Router.{fresh_channel, free_output, input_at, output_at, leaving, credit_of}
 use Rattle.worm_router.specs.Demand.{DemandView}
-use Rattle.worm_router.specs.Busy.{IsKept, HasFront, IsFiled, is_occupied, is_waiting, owes, waits}
+use Rattle.worm_router.specs.Busy.{IsKept, IsWithout, HasFront, IsFiled, is_occupied, is_waiting, owes, waits}
 use Rattle.worm_router.proofs.ChangesSound.{both_set_sound, left_by, left_sound, full_after, no_credit}
 use Rattle.worm_router.proofs.Places.{IsInput, IsOutput, input_of, output_of}
 use Rattle.worm_router.proofs.Filed.{busy_filed}
@@ -23,6 +24,7 @@ use Rattle.worm_router.proofs.HeldOuts.{outs_left}
 use Rattle.worm_router.proofs.Those.{unfiled}
 use Rattle.worm_router.proofs.LackCredit.{lack_left, leaves_with_credit}
 use Rattle.worm_router.proofs.OweAll.{owe_left, leaves_owing_less}
+use Rattle.worm_router.proofs.FullBuffers.{full_left}
 
 -- a flit that may leave, for so many credits spent and owed: its input channel and the output channel that this holds,
 -- as they were read
@@ -80,13 +82,15 @@ leaving_of r s sets asked masks port vc i out o f had had_out spent more same ke
     }
 
 -- its front is out, and filed so: all of it that is the same whether that closed the packet
-pub record IsOut (depth : ℕ) (sets mid : BusyChannels) (port vc : ℕ) (had gone : ChannelState) (f : Flit)
-    (more : ℕ) : Type 0 where
+pub record IsOut (depth : ℕ) (channels : List ℕ) (sets mid : BusyChannels) (port vc : ℕ) (had gone : ChannelState)
+    (f : Flit) (more : ℕ) : Type 0 where
   pub gone_is : gone ≡ left_by false had f more
   pub occupied : IsFiled sets.occupied mid.occupied port vc (is_occupied gone)
   pub owing : IsFiled sets.owing mid.owing port vc (owes gone)
   pub owes_all : IsFiled sets.owes_all mid.owes_all port vc (nat_lt depth (gone.owed + more))
-  pub others : mid ≡ record sets { occupied = mid.occupied; owing = mid.owing; owes_all = mid.owes_all }
+  pub full : IsWithout sets.full mid.full (owner_of channels vc) (more == 0)
+  pub others : mid
+      ≡ record sets { occupied = mid.occupied; owing = mid.owing; owes_all = mid.owes_all; full = mid.full }
 
 -- what is written in all: where that `closed` the packet both channels are free
 record HasLeft (r : RouterState) (sets new : BusyChannels) (asked now_asked : DemandView)
@@ -98,6 +102,7 @@ record HasLeft (r : RouterState) (sets new : BusyChannels) (asked now_asked : De
   occupied : IsFiled sets.occupied new.occupied port vc (is_occupied now)
   owing : IsFiled sets.owing new.owing port vc (owes now)
   owes_all : IsFiled sets.owes_all new.owes_all port vc (nat_lt r.depth (now.owed + more))
+  full : IsWithout sets.full new.full (owner_of r.channels vc) (more == 0)
   outs : new.outs ≡ (if closed then with_cell sets.outs port vc None else sets.outs)
   no_credit : IsFiled sets.no_credit new.no_credit port vc (not closed && nat_lt u.credits spent)
   requests : now_asked.requests ≡ asked.requests
@@ -179,13 +184,15 @@ module _ (r : RouterState) (sets new : BusyChannels) (asked now_asked : DemandVi
     owes_all = owe_left r port vc i had now leaving.input kept.busy.few_ports kept.busy.few_channels
         (slice_set r.outputs o u) sets.owes_all new.owes_all more sound_now.owed_fits leaving.owes_more left.owes_all
         kept.owes_all;
+    full = full_left r port vc i had now leaving.input (slice_set r.outputs o u) sets.full new.full more
+        kept.classes.are leaving.owes_more left.full kept.full;
     classes = kept.classes;
   }
 
 module _ (r : RouterState) (sets mid : BusyChannels) (asked : DemandView) (masks : List ℕ)
     (port vc i out out_vc o : ℕ) (had gone : ChannelState) (had_out : OutRecord) (f : Flit) (spent more : ℕ)
     (kept : IsKept r sets asked masks) (leaving : IsLeaving r sets port vc i out out_vc o had had_out spent more)
-    (is_out : IsOut r.depth sets mid port vc had gone f more) where
+    (is_out : IsOut r.depth r.channels sets mid port vc had gone f more) where
   -- it closed its packet: both channels are free
   pub closed_kept : (now : ChannelState) (u : OutRecord) (outs : List (List (Option ℕ))) (now_asked : DemandView)
       → now ≡ in_state gone Idle → u ≡ record { holder = None; credits = had_out.credits - spent }
@@ -204,6 +211,7 @@ module _ (r : RouterState) (sets mid : BusyChannels) (asked : DemandView) (masks
         owing = subst (λ (c : ChannelState). IsFiled sets.owing mid.owing port vc (owes c)) (sym now_is) is_out.owing;
         owes_all = subst (λ (c : ChannelState). IsFiled sets.owes_all mid.owes_all port vc
             (nat_lt r.depth (c.owed + more))) (sym now_is) is_out.owes_all;
+        full = is_out.full;
         outs = outs_are ∙ ap (λ (b : BusyChannels). with_cell b.outs port vc None) is_out.others;
         no_credit = subst (λ (b : BusyChannels). IsFiled sets.no_credit b.no_credit port vc false) (sym is_out.others)
             (unfiled sets.no_credit port vc false leaving.has_credit);
@@ -225,6 +233,7 @@ module _ (r : RouterState) (sets mid : BusyChannels) (asked : DemandView) (masks
         occupied = is_out.occupied;
         owing = is_out.owing;
         owes_all = is_out.owes_all;
+        full = is_out.full;
         outs = ap (λ (b : BusyChannels). b.outs) is_out.others;
         no_credit = subst (λ b. IsFiled sets.no_credit no_credit port vc (b || nat_lt u.credits spent))
             leaving.has_credit

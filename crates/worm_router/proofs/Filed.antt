@@ -156,6 +156,7 @@ pub fresh_busy : (t w depth count : ℕ) (inputs : List ChannelState) (sets : Bu
       owes_all = 0;
       occupied = 0;
       owing = 0;
+      full = 0;
     }
     → AreBusy t w depth inputs sets
 fresh_busy t w depth count inputs sets few_ports few_channels all counted none = rw none record {

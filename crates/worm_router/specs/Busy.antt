@@ -2,7 +2,8 @@
 -- others.
 use Rattle.std.specs.Prelude.{ℕ, ◌+◌, ◌*◌, ◌<◌, ◌≤◌, ◌≡◌, ◌==◌, ◌&&◌, ◌||◌, nat_lt, Bool, true, false, List, length}
 use Rattle.std.specs.Prelude.{slice_index, slice_index_or, All, Option, Some, None, is_some, not}
-use Rattle.worm_flit.specs.Channels.{AreChannels, class_bits}
+use Rattle.worm_flit.specs.Channels.{AreChannels, class_bits, first_channel}
+use Rattle.worm_flit.specs.SmallSet.{has as has_small}
 use Rattle.worm_records.specs.declared.InRecord.{InRecord}
 use Rattle.worm_records.specs.declared.InRecord.TheVariants.{Idle, Waiting, Active}
 use Rattle.worm_vcalloc.specs.ChannelSet.{has}
@@ -109,6 +110,20 @@ LackCredit r set = AreThose (λ p c. lacks_credit r c.state) r set
 abbrev pub OweAll : RouterState → ℕ → Type 0
 OweAll r set = AreThose (λ p c. owes_all r p c.owed) r set
 
+-- the injection buffer of a class is full: its flits are fed on its first channel
+pub record IsFull (r : RouterState) (class : ℕ) : Type 0 where
+  pub class_in : class < length r.channels
+  pub no_room : r.depth ≤ length (input_at r (terminal r) (first_channel r.channels class)).buffer
+
+-- a set has no classes but those whose injection buffer is full
+abbrev pub AreFull : RouterState → ℕ → Type 0
+AreFull r set = (class : ℕ) → class < 8 → has_small set class ≡ true → IsFull r class
+
+-- no class has come into a set, and this one is not in it, if it `goes`
+pub record IsWithout (old new class : ℕ) (goes : Bool) : Type 0 where
+  pub within : (k : ℕ) → k < 8 → has_small new k ≡ true → has_small old k ≡ true
+  pub gone : goes ≡ true → has_small new class ≡ false
+
 -- the output port whose channel an input channel holds
 abbrev pub port_held : InRecord → Option ℕ
 port_held Idle = None
@@ -145,4 +160,5 @@ pub record IsKept (r : RouterState) (sets : BusyChannels) (asked : DemandView) (
   pub outs : sets.outs ≡ held_outs r
   pub no_credit : LackCredit r sets.no_credit
   pub owes_all : OweAll r sets.owes_all
+  pub full : AreFull r sets.full
   pub classes : AreMasks r.channels masks

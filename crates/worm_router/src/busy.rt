@@ -1,6 +1,8 @@
-ghost use Rattle.std.specs.Prelude.{◌≡◌, None, replicate};
-ghost use Rattle.worm_router.specs.Busy.{AreReady};
+ghost use Rattle.std.specs.Prelude.{◌≡◌, ◌<◌, None, false, replicate, sum};
+ghost use Rattle.worm_flit.specs.Channels.{AreChannels, owner_of};
+ghost use Rattle.worm_router.specs.Busy.{AreReady, IsWithout};
 
+use worm_flit::{ClassChannels, SmallSet};
 use worm_swalloc::ReadyOuts;
 use worm_vcalloc::ChannelSet;
 
@@ -17,6 +19,8 @@ pub struct BusyChannels {
     pub occupied: ChannelSet,
     /// Those that owe a credit.
     pub owing: ChannelSet,
+    /// The classes whose injection buffer is known to be full, so that a turn tries none of their flits.
+    pub full: SmallSet,
 }
 
 impl BusyChannels {
@@ -28,6 +32,7 @@ impl BusyChannels {
           owes_all = 0;
           occupied = 0;
           owing = 0;
+          full = 0;
         } }
     {
         BusyChannels {
@@ -36,6 +41,7 @@ impl BusyChannels {
             owes_all: ChannelSet::new(),
             occupied: ChannelSet::new(),
             owing: ChannelSet::new(),
+            full: SmallSet::new(),
         }
     }
 
@@ -48,5 +54,20 @@ impl BusyChannels {
             .intersection(&self.occupied)
             .difference(&self.no_credit)
             .difference(&self.owes_all)
+    }
+
+    /// A flit that was `fed` to this channel, as those that come in at the terminal are, has left it: the injection
+    /// buffer of its class has room.
+    pub fn make_room(&mut self, classes: &ClassChannels, vc: u8, fed: bool)
+        requires classes { AreChannels classes.now }
+        requires channel { vc < sum classes.now }
+        ensures gone { IsWithout self.old.full self.new.full (owner_of classes.now vc) fed }
+        ensures kept { fed ≡ false → self.new.full ≡ self.old.full }
+        ensures others { self.new ≡ record self.old { full = self.new.full } }
+    {
+        // Mostly none is known to be full.
+        if fed && !self.full.is_empty() {
+            self.full.put(classes.owner(vc), false);
+        }
     }
 }

@@ -11,6 +11,7 @@ ghost use Rattle.worm_router.specs.Router.{after_send, after_gave, after_credit}
 
 mod allocation;
 mod fresh;
+mod full;
 mod readers;
 mod rest;
 
@@ -330,6 +331,7 @@ impl Router {
         self.busy.owing.insert_if(port, vc, more_owed > 0);
         let owes_all = channel.owed() + more_owed > self.depth;
         self.busy.owes_all.insert_if(port, vc, owes_all);
+        self.busy.make_room(&self.classes, vc, more_owed == 0);
         if is_closing(flit.kind) {
             channel.close();
             output.release();

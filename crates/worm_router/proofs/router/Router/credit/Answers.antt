@@ -10,6 +10,7 @@ use Rattle.worm_router.proofs.Filed.{busy_as, filed}
 use Rattle.worm_router.proofs.Holders.{holders_out}
 use Rattle.worm_router.proofs.LackCredit.{lack_credited, holder_fits}
 use Rattle.worm_router.proofs.Demanded.{free_kept}
+use Rattle.worm_router.proofs.FullBuffers.{full_as}
 use Rattle.worm_router.proofs.router.Router.credit.Goals.{After-add_credit}
 use Rattle.worm_router.proofs.router.Router.credit.Goals as goal
 
@@ -60,6 +61,7 @@ credited c no_credit filed_so =
           c.self.invariant.holders _ _ (ap (λ (u : OutRecord). u.holder) c.add_credit.ensures)
           c.self.invariant.no_credit filed_so;
       owes_all = record { each = c.self.invariant.owes_all.each };
+      full = full_as _ _ _ _ _ _ refl c.self.invariant.full;
     }
 
 pub invariant_of-self : goal.invariant_of-self

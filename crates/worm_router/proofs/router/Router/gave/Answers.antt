@@ -13,6 +13,7 @@ use Rattle.worm_router.proofs.Holders.{holders_in}
 use Rattle.worm_router.proofs.HeldOuts.{outs_kept}
 use Rattle.worm_router.proofs.LackCredit.{lack_stay}
 use Rattle.worm_router.proofs.OweAll.{owe_given}
+use Rattle.worm_router.proofs.FullBuffers.{full_kept}
 use Rattle.worm_router.proofs.router.Router.gave.Goals as goal
 
 pub invariant_of-self : goal.invariant_of-self
@@ -63,4 +64,6 @@ invariant_of-self c =
       owes_all = owe_given _ _ _ _ _ _ input c.self.invariant.busy.few_ports c.self.invariant.busy.few_channels _ _ _
           (ap (λ (x : ChannelState). x.owed) c.give.ensures) (omega (arith, owed_some)) had.owed_fits
           (filed _ _ _ _ _ c.put.ensures) c.self.invariant.owes_all;
+      full = full_kept _ _ _ _ _ _ input _ _ _ refl (ap (λ (x : ChannelState). x.buffer) c.give.ensures)
+          c.self.invariant.full;
     }

@@ -1,10 +1,11 @@
-use Rattle.std.proofs.Common.{◌≡◌, List, Option, ℕ, ap, subst, ◌∙◌, sym, arith}
+use Rattle.std.proofs.Common.{◌≡◌, List, Option, ℕ, ap, subst, ◌∙◌, refl, sym, arith}
 use Rattle.std.proofs.lemmas.Bool.{eqb-true}
 use Rattle.std.proofs.lemmas.Grind.{common_steps}
 use Rattle.worm_swalloc.specs.SwAlloc.{SwAllocState, AreApart, IsSwitchMatching, sw_grants, sw_after}
 use Rattle.worm_router.specs.Router.{RouterState, router_state}
 use Rattle.worm_router.specs.Allocation.{ready_outs, switch_grants, after_choose}
 use Rattle.worm_router.specs.Busy.{HasArbiters}
+use Rattle.worm_router.proofs.FullBuffers.{full_as}
 use Rattle.worm_router.proofs.NothingReady.{arbiters_stay}
 use Rattle.worm_router.proofs.ReadyApart.{ready_apart}
 use Rattle.worm_router.proofs.ReadyOuts.{first_of, ready_table}
@@ -38,6 +39,7 @@ invariant_of-self c = record {
   outs = c.self.invariant.outs;
   no_credit = record { each = c.self.invariant.no_credit.each };
   owes_all = record { each = c.self.invariant.owes_all.each };
+  full = full_as _ _ _ _ _ _ refl c.self.invariant.full;
   classes = c.self.invariant.classes;
 }
 

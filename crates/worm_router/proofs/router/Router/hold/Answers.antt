@@ -16,6 +16,7 @@ use Rattle.worm_router.proofs.Demanded.{requests_put, free_put}
 use Rattle.worm_router.proofs.HeldOuts.{outs_put}
 use Rattle.worm_router.proofs.LackCredit.{lack_held}
 use Rattle.worm_router.proofs.OweAll.{owe_stay}
+use Rattle.worm_router.proofs.FullBuffers.{full_kept}
 use Rattle.worm_router.proofs.router.Router.hold.Goals as goal
 
 pub invariant_of-self : goal.invariant_of-self
@@ -89,6 +90,8 @@ invariant_of-self c =
           c.self.invariant.holders c.self.invariant.no_credit;
       owes_all = owe_stay _ _ _ _ _ _ input c.self.invariant.busy.few_ports c.self.invariant.busy.few_channels _ _ _
           refl (ap (λ (x : ChannelState). x.owed) active) c.self.invariant.owes_all;
+      full = full_kept _ _ _ _ _ _ input _ _ _ refl
+          (ap (λ (x : ChannelState). x.buffer) active) c.self.invariant.full;
     }
 
 pub activate-requires : goal.activate-requires

@@ -14,6 +14,7 @@ use Rattle.worm_router.proofs.Demanded.{requests_put, asks_by_front, front_there
 use Rattle.worm_router.proofs.HeldOuts.{outs_kept}
 use Rattle.worm_router.proofs.LackCredit.{lack_waiting}
 use Rattle.worm_router.proofs.OweAll.{owe_stay}
+use Rattle.worm_router.proofs.FullBuffers.{full_kept}
 use Rattle.worm_router.proofs.router.Router.route.Goals as goal
 use Rattle.worm_router.proofs.router.Router.route.Goals.{in-Idle, in_default}
 
@@ -82,4 +83,6 @@ invariant_of-self c =
           refl _ was_idle (ap (λ (x : ChannelState). x.state) c.route_to.ensures) c.self.invariant.no_credit;
       owes_all = owe_stay _ _ _ _ _ _ input c.self.invariant.busy.few_ports c.self.invariant.busy.few_channels _ _ _
           refl (ap (λ (x : ChannelState). x.owed) c.route_to.ensures) c.self.invariant.owes_all;
+      full = full_kept _ _ _ _ _ _ input _ _ _ refl
+          (ap (λ (x : ChannelState). x.buffer) c.route_to.ensures) c.self.invariant.full;
     }
