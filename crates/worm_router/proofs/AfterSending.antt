@@ -4,7 +4,6 @@ use Rattle.std.proofs.Common.{Option, None, Some, slice_set, slice_index_or, get
 use Rattle.std.proofs.Common.{arith, inl, refl, ap, sym, subst, ◌∙◌, ◌==◌}
 use Rattle.std.proofs.lemmas.List.Elements.{All-set, All-get_or}
 use Rattle.worm_flit.specs.declared.Flit.{Flit}
-use Rattle.worm_flit.specs.Channels.{owner_of}
 use Rattle.worm_records.specs.declared.InRecord.TheVariants.{Idle, Active}
 use Rattle.worm_records.specs.declared.OutRecord.{OutRecord}
 use Rattle.worm_vcalloc.specs.ChannelSet.{has}
@@ -13,7 +12,7 @@ use Rattle.worm_router.specs.declared.busy.BusyChannels.{BusyChannels}
 use Rattle.worm_router.specs.Router.{RouterState, ChannelState, IsChannel, IsPlace, terminal, width, line, in_state}
 use Rattle.worm_router.specs.Router.{fresh_channel, free_output, input_at, output_at, leaving, credit_of}
 use Rattle.worm_router.specs.Demand.{DemandView}
-use Rattle.worm_router.specs.Busy.{IsKept, IsWithout, HasFront, IsFiled, is_occupied, is_waiting, owes, waits}
+use Rattle.worm_router.specs.Busy.{IsKept, HasFront, IsFiled, is_occupied, is_waiting, owes, waits}
 use Rattle.worm_router.proofs.ChangesSound.{both_set_sound, left_by, left_sound, full_after, no_credit}
 use Rattle.worm_router.proofs.Places.{IsInput, IsOutput, input_of, output_of}
 use Rattle.worm_router.proofs.Filed.{busy_filed}
@@ -82,13 +81,13 @@ leaving_of r s sets asked masks port vc i out o f had had_out spent more same ke
     }
 
 -- its front is out, and filed so: all of it that is the same whether that closed the packet
-pub record IsOut (depth : ℕ) (channels : List ℕ) (sets mid : BusyChannels) (port vc : ℕ) (had gone : ChannelState)
-    (f : Flit) (more : ℕ) : Type 0 where
+pub record IsOut (depth : ℕ) (sets mid : BusyChannels) (port vc : ℕ) (had gone : ChannelState) (f : Flit) (more : ℕ)
+    : Type 0 where
   pub gone_is : gone ≡ left_by false had f more
   pub occupied : IsFiled sets.occupied mid.occupied port vc (is_occupied gone)
   pub owing : IsFiled sets.owing mid.owing port vc (owes gone)
   pub owes_all : IsFiled sets.owes_all mid.owes_all port vc (nat_lt depth (gone.owed + more))
-  pub full : IsWithout sets.full mid.full (owner_of channels vc) (more == 0)
+  pub full : mid.full ≡ (if more == 0 then 0 else sets.full)
   pub others : mid
       ≡ record sets { occupied = mid.occupied; owing = mid.owing; owes_all = mid.owes_all; full = mid.full }
 
@@ -102,7 +101,7 @@ record HasLeft (r : RouterState) (sets new : BusyChannels) (asked now_asked : De
   occupied : IsFiled sets.occupied new.occupied port vc (is_occupied now)
   owing : IsFiled sets.owing new.owing port vc (owes now)
   owes_all : IsFiled sets.owes_all new.owes_all port vc (nat_lt r.depth (now.owed + more))
-  full : IsWithout sets.full new.full (owner_of r.channels vc) (more == 0)
+  full : new.full ≡ (if more == 0 then 0 else sets.full)
   outs : new.outs ≡ (if closed then with_cell sets.outs port vc None else sets.outs)
   no_credit : IsFiled sets.no_credit new.no_credit port vc (not closed && nat_lt u.credits spent)
   requests : now_asked.requests ≡ asked.requests
@@ -185,14 +184,14 @@ module _ (r : RouterState) (sets new : BusyChannels) (asked now_asked : DemandVi
         (slice_set r.outputs o u) sets.owes_all new.owes_all more sound_now.owed_fits leaving.owes_more left.owes_all
         kept.owes_all;
     full = full_left r port vc i had now leaving.input (slice_set r.outputs o u) sets.full new.full more
-        kept.classes.are leaving.owes_more left.full kept.full;
+        leaving.owes_more left.full kept.full;
     classes = kept.classes;
   }
 
 module _ (r : RouterState) (sets mid : BusyChannels) (asked : DemandView) (masks : List ℕ)
     (port vc i out out_vc o : ℕ) (had gone : ChannelState) (had_out : OutRecord) (f : Flit) (spent more : ℕ)
     (kept : IsKept r sets asked masks) (leaving : IsLeaving r sets port vc i out out_vc o had had_out spent more)
-    (is_out : IsOut r.depth r.channels sets mid port vc had gone f more) where
+    (is_out : IsOut r.depth sets mid port vc had gone f more) where
   -- it closed its packet: both channels are free
   pub closed_kept : (now : ChannelState) (u : OutRecord) (outs : List (List (Option ℕ))) (now_asked : DemandView)
       → now ≡ in_state gone Idle → u ≡ record { holder = None; credits = had_out.credits - spent }

@@ -113,16 +113,12 @@ OweAll r set = AreThose (λ p c. owes_all r p c.owed) r set
 -- the injection buffer of a class is full: its flits are fed on its first channel
 pub record IsFull (r : RouterState) (class : ℕ) : Type 0 where
   pub class_in : class < length r.channels
+  pub channel_in : first_channel r.channels class < width r
   pub no_room : r.depth ≤ length (input_at r (terminal r) (first_channel r.channels class)).buffer
 
 -- a set has no classes but those whose injection buffer is full
 abbrev pub AreFull : RouterState → ℕ → Type 0
 AreFull r set = (class : ℕ) → class < 8 → has_small set class ≡ true → IsFull r class
-
--- no class has come into a set, and this one is not in it, if it `goes`
-pub record IsWithout (old new class : ℕ) (goes : Bool) : Type 0 where
-  pub within : (k : ℕ) → k < 8 → has_small new k ≡ true → has_small old k ≡ true
-  pub gone : goes ≡ true → has_small new class ≡ false
 
 -- the output port whose channel an input channel holds
 abbrev pub port_held : InRecord → Option ℕ

@@ -1,8 +1,7 @@
-ghost use Rattle.std.specs.Prelude.{◌≡◌, ◌<◌, None, false, replicate, sum};
-ghost use Rattle.worm_flit.specs.Channels.{AreChannels, owner_of};
-ghost use Rattle.worm_router.specs.Busy.{AreReady, IsWithout};
+ghost use Rattle.std.specs.Prelude.{◌≡◌, None, if◌then◌else◌, replicate};
+ghost use Rattle.worm_router.specs.Busy.{AreReady};
 
-use worm_flit::{ClassChannels, SmallSet};
+use worm_flit::SmallSet;
 use worm_swalloc::ReadyOuts;
 use worm_vcalloc::ChannelSet;
 
@@ -56,18 +55,12 @@ impl BusyChannels {
             .difference(&self.owes_all)
     }
 
-    /// A flit that was `fed` to this channel, as those that come in at the terminal are, has left it: the injection
-    /// buffer of its class has room.
-    pub fn make_room(&mut self, classes: &ClassChannels, vc: u8, fed: bool)
-        requires classes { AreChannels classes.now }
-        requires channel { vc < sum classes.now }
-        ensures gone { IsWithout self.old.full self.new.full (owner_of classes.now vc) fed }
-        ensures kept { fed ≡ false → self.new.full ≡ self.old.full }
-        ensures others { self.new ≡ record self.old { full = self.new.full } }
+    /// A flit has left. Where it had been `fed`, as those are that come in at the terminal, an injection buffer has room
+    /// now, and none is known to be full.
+    pub fn forget_full(&mut self, fed: bool)
+        ensures { self.new ≡ record self.old { full = if fed then 0 else self.old.full } }
     {
-        // Mostly none is known to be full.
-        if fed && !self.full.is_empty() {
-            self.full.put(classes.owner(vc), false);
-        }
+        // Both ways out are worked out: a branch would be hard to guess.
+        self.full = if fed { SmallSet::new() } else { self.full };
     }
 }

@@ -331,7 +331,7 @@ impl Router {
         self.busy.owing.insert_if(port, vc, more_owed > 0);
         let owes_all = channel.owed() + more_owed > self.depth;
         self.busy.owes_all.insert_if(port, vc, owes_all);
-        self.busy.make_room(&self.classes, vc, more_owed == 0);
+        self.busy.forget_full(more_owed == 0);
         if is_closing(flit.kind) {
             channel.close();
             output.release();

@@ -1,4 +1,4 @@
-use Rattle.std.proofs.Common.{◌+◌, ◌<◌, ◌≡◌, ◌&&◌, ◌||◌, not, nat_lt, ℕ, Option, None, refl, ap, sym, ◌∙◌, subst}
+use Rattle.std.proofs.Common.{◌+◌, ◌≡◌, ◌&&◌, ◌||◌, not, nat_lt, ℕ, Option, None, refl, ap, sym, ◌∙◌, subst}
 use Rattle.std.specs.Prelude.{is_some}
 use Rattle.worm_router.specs.Busy.{IsFiled, is_occupied, owes}
 use Rattle.worm_records.specs.declared.OutRecord.{OutRecord}
@@ -6,10 +6,10 @@ use Rattle.worm_vcalloc.specs.ChannelSet.{has}
 use Rattle.std.proofs.Math.Bool.{not-not}
 use Rattle.worm_router.proofs.Filed.{filed, inside_of, owes_more}
 use Rattle.worm_router.specs.declared.busy.BusyChannels.{BusyChannels}
-use Rattle.worm_router.specs.Router.{RouterState, ChannelState, router_state, width}
+use Rattle.worm_router.specs.Router.{RouterState, ChannelState, router_state}
 use Rattle.worm_router.proofs.Leaving.{may_leave}
 use Rattle.worm_router.proofs.AfterSending.{IsLeaving, IsOut, leaving_of, closed_kept, followed_kept}
-use Rattle.worm_router.proofs.router.Router.let_out.Goals.{After-index_mut-output, After-make_room}
+use Rattle.worm_router.proofs.router.Router.let_out.Goals.{After-index_mut-output, After-forget_full}
 use Rattle.worm_router.proofs.router.Router.let_out.Goals as goal
 
 abbrev was : After-index_mut-output → RouterState
@@ -53,13 +53,13 @@ release-requires c =
     ∙ ap (λ (h : Option (ℕ × ℕ)). is_some h) (leaves (goal.at.release-requires c).After-index_mut-output).its
 
 -- it is out, and filed so
-out : (c : After-make_room)
+out : (c : After-forget_full)
     → IsLeaving (router_state c.self.inside.routes.mesh c.self.inside.routes.node c.self.inside.classes
     c.self.inside.depth
     c.self.inside.inputs.items c.self.inside.outputs.items c.self.inside.channel_alloc c.self.inside.switch_alloc)
     c.self.inside.busy c.args.port c.args.vc c.line-i.result c.args.out c.args.flit.vc c.line-o.result
     c.index_mut-channel.result.now c.index_mut-output.result.now c.credit_of-spent.result c.credit_of-more_owed.result
-    → IsOut c.self.inside.depth c.self.inside.classes c.self.inside.busy c.make_room.new.self c.args.port c.args.vc
+    → IsOut c.self.inside.depth c.self.inside.busy c.forget_full.new.self c.args.port c.args.vc
     c.index_mut-channel.result.now c.let_out.new.self c.args.flit c.credit_of-more_owed.result
 out c it =
     let sets = c.self.inside.busy in
@@ -74,28 +74,20 @@ out c it =
     ≡ nat_lt c.self.inside.depth (gone.owed + more) =
     ap (λ b. b || nat_lt c.self.inside.depth (c.owed.result + more)) it.owes_less
     ∙ ap (λ n. nat_lt c.self.inside.depth (n + more)) c.owed.ensures in
-    subst (λ (mid : BusyChannels). IsOut c.self.inside.depth c.self.inside.classes c.self.inside.busy mid
+    subst (λ (mid : BusyChannels). IsOut c.self.inside.depth c.self.inside.busy mid
     c.args.port c.args.vc c.index_mut-channel.result.now c.let_out.new.self c.args.flit c.credit_of-more_owed.result)
-    (sym c.make_room.ensures.others) (record {
+    (sym c.forget_full.ensures) (record {
       gone_is = c.let_out.ensures;
       occupied = subst (IsFiled _ _ _ _) occupied (filed _ _ _ _ _ c.remove_if.ensures);
       owing = subst (IsFiled _ _ _ _) owing (filed _ _ _ _ _ c.insert_if.ensures);
       owes_all = subst (IsFiled _ _ _ _) owes_all (filed _ _ _ _ _ c.insert_if-2.ensures);
-      full = c.make_room.ensures.gone;
+      full = refl;
       others = refl;
     })
 
-pub make_room-requires-clause-classes : goal.make_room-requires-clause-classes
-make_room-requires-clause-classes c = c.self.invariant.classes.are
-
-pub make_room-requires-clause-channel : goal.make_room-requires-clause-channel
-make_room-requires-clause-channel c =
-    let place = c.requires.place in
-    subst (λ (r : RouterState). c.args.vc < width r) (sym c.self.view_is) place.channel_in
-
 pub invariant_of-self : goal.invariant_of-self
 invariant_of-self c =
-    let at = (goal.at.invariant_of-self c).After-make_room in
+    let at = (goal.at.invariant_of-self c).After-forget_full in
     let it = leaves (goal.at.invariant_of-self c).After-index_mut-output in
     closed_kept _ _ _ _ _ _ _ _ _ _ _ _ _ _ _ _ _ c.self.invariant it (out at it) _ _ _ _ c.close.ensures
     (c.release.ensures ∙ ap (λ (u : OutRecord). record u { holder = None }) c.spend.ensures) c.set.ensures
@@ -103,7 +95,7 @@ invariant_of-self c =
 
 pub invariant_of-self-else-is_closing : goal.invariant_of-self-else-is_closing
 invariant_of-self-else-is_closing c =
-    let at = (goal.at.invariant_of-self-else-is_closing c).After-make_room in
+    let at = (goal.at.invariant_of-self-else-is_closing c).After-forget_full in
     let it = leaves (goal.at.invariant_of-self-else-is_closing c).After-index_mut-output in
     followed_kept _ _ _ _ _ _ _ _ _ _ _ _ _ _ _ _ _ c.self.invariant it (out at it) _ _ c.spend.ensures
     (filed _ _ _ _ _ c.insert_if-else-is_closing.ensures)
