@@ -88,7 +88,8 @@ module _ (r : RouterState) (port vc i : ℕ) (had now : ChannelState) (input : I
 
     by : (b : Bool) → (more == 0) ≡ b → new ≡ (if b then 0 else old)
         → AreFull (record r { inputs = slice_set r.inputs i now; outputs = outputs }) new
-    by true fed none = λ k k_in there. let no : true ≡ false = sym there ∙ has_none new k (eq-eqb new 0 none) in absurd (cc)
+    by true fed none = λ k k_in there.
+        let no : true ≡ false = sym there ∙ has_none new k (eq-eqb new 0 none) in absurd (cc)
     by false owed same =
         full_written same
         (λ k known at room. let no : true ≡ false = sym (fed_there k known at) ∙ owed in absurd (cc)) those

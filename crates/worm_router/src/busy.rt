@@ -55,8 +55,8 @@ impl BusyChannels {
             .difference(&self.owes_all)
     }
 
-    /// A flit has left. Where it had been `fed`, as those are that come in at the terminal, an injection buffer has room
-    /// now, and none is known to be full.
+    /// A flit has left. Where it had been `fed`, as those at the terminal are, an injection buffer has room now, and
+    /// none is known to be full.
     pub fn forget_full(&mut self, fed: bool)
         ensures { self.new ≡ record self.old { full = if fed then 0 else self.old.full } }
     {
