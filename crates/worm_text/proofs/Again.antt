@@ -1,6 +1,6 @@
 -- Each line of the text of a network that keeps the rules is judged well.
-use Rattle.std.proofs.Common.{◌≡◌, lit<, ℕ, suc, zero, ◌*◌, ◌<◌, ◌≤◌, ◌^◌, true, leb, List, [], ◌∷◌, ◌++◌, length}
-use Rattle.std.proofs.Common.{get_or, replicate, refl, sym, ap, subst, ◌∙◌, append_assoc, arith, fold, map, All}
+use Rattle.std.proofs.Common.{◌≡◌, lit<, ℕ, suc, zero, ◌<◌, ◌≤◌, ◌^◌, true, leb, List, [], ◌∷◌, ◌++◌, length}
+use Rattle.std.proofs.Common.{get_or, replicate, refl, sym, ap, subst, ◌∙◌, append_assoc, arith, map, All}
 use Rattle.std.specs.Prelude.{codes}
 use Rattle.std.specs.Fmt.{decimal}
 use Rattle.std.specs.List.{list_all}

@@ -1,17 +1,15 @@
 -- Entries, line after line.
-use Rattle.std.proofs.Common.{◌≡◌, ℕ, suc, ◌+◌, ◌*◌, ◌<◌, ◌≤◌, Bool, true, false, ◌||◌, inl, inr, cond, eqb, ltb, List}
-use Rattle.std.proofs.Common.{[], ◌∷◌, ◌++◌, length, get_or, take, drop, Option, Some, None, Result, Ok, Err, refl, sym}
-use Rattle.std.proofs.Common.{ap, ◌∙◌, arith, map, fold, All, add-one}
+use Rattle.std.proofs.Common.{◌≡◌, ℕ, suc, ◌+◌, ◌<◌, Bool, true, false, ◌||◌, inl, inr, cond, eqb, ltb, List}
+use Rattle.std.proofs.Common.{[], ◌∷◌, ◌++◌, length, Option, Some, None, Result, Ok, Err, refl, sym}
+use Rattle.std.proofs.Common.{ap, ◌∙◌, arith, map, add-one}
 use mathlib.Core.Path.{fun_ext}
 use Rattle.std.specs.Prelude.{codes, not, OnOk, is_ok}
 use Rattle.std.specs.Str.{bytes_eq}
 use Rattle.std.specs.List.{onto_first}
 use Rattle.std.proofs.lemmas.Bool.Decides.{nat_tests}
-use Rattle.std.proofs.lemmas.List.{map_push, take-append-drop, get_or-drop, length-drop}
+use Rattle.std.proofs.lemmas.List.{map_push}
 use Rattle.std.proofs.lemmas.List.Folds.{list_any-append}
-use Rattle.std.proofs.lemmas.List.Sums.{fold_push, fold_more, fold-append}
-use Rattle.std.proofs.lemmas.Nat.{mul-le}
-use Rattle.worm_mesh.specs.Address.{node_count}
+use Rattle.std.proofs.lemmas.List.Sums.{fold_push}
 use Rattle.worm_text.specs.declared.fault.Why.{Why}
 use Rattle.worm_text.specs.declared.fault.Why.TheVariants.{Header, UnknownWord, TooMany, AfterEnd}
 use Rattle.worm_text.specs.declared.fault.TextFault.{TextFault}
@@ -20,7 +18,7 @@ use Rattle.worm_script.specs.declared.entry.Act.{Act}
 use Rattle.worm_script.specs.declared.entry.Act.TheVariants as act
 use Rattle.worm_script.specs.declared.entry.Entry.{Entry}
 use Rattle.worm_text.specs.Lines.{cut, space, newline}
-use Rattle.worm_text.specs.Network.{Network, IsBetween}
+use Rattle.worm_text.specs.Network.{Network}
 use Rattle.worm_text.specs.Reading.{◌>>=◌, checked, no_more}
 use Rattle.worm_text.specs.Reader.{at_line}
 use Rattle.worm_text.specs.Traffic.{Said, said, entry_view, turn_of, closes, is_closed, last_turn, entry_at, send_at}

@@ -1,5 +1,5 @@
 -- The field that comes next, by the digits at the front of what is left of a line.
-use Rattle.std.proofs.Common.{◌≡◌, ℕ, ◌+◌, ◌-◌, ◌<◌, ◌≤◌, min, Bool, true, false, not, ◌&&◌, ◌||◌, cond, eqb, ltb, leb}
+use Rattle.std.proofs.Common.{◌≡◌, ℕ, ◌-◌, ◌<◌, ◌≤◌, Bool, true, false, not, ◌&&◌, ◌||◌, cond, eqb, ltb, leb}
 use Rattle.std.proofs.Common.{◌⊎◌, List, [], ◌∷◌, length, get_or, take, drop, Ok, Err, add-zero, refl, sym, ap, ◌∙◌}
 use Rattle.std.proofs.Common.{arith}
 use Rattle.std.specs.List.{list_all, prefix_len, position_or_len}
@@ -122,20 +122,22 @@ is_numeral-leading bytes n is =
 
 -- ---- the number that a numeral is
 
+pub numeral-leading : (bytes : List ℕ) (fields : List (List ℕ)) → fields ≡ cut space bytes
+    → true ≡ is_numeral (next_field fields) → is_numeral (leading_digits bytes) ≡ true
+numeral-leading bytes fields are numeral =
+    let digits : next_field fields ≡ leading_digits bytes = rw are (numeral_is bytes (rw are at (sym numeral))).0 in
+    rw digits at (sym numeral)
+
 pub number_at-cut : (low high : ℕ) (bytes : List ℕ) (fields left : List (List ℕ)) → fields ≡ cut space bytes
     → fields ≡ next_field fields ∷ left → true ≡ is_numeral (next_field fields)
     → number_at low high fields ≡ (let value = value_of (leading_digits bytes) in
     cond (leb low value && leb value high) (Ok (value, left)) (Err Range))
 number_at-cut low high bytes fields left are one numeral =
     let digits : next_field fields ≡ leading_digits bytes = rw are (numeral_is bytes (rw are at (sym numeral))).0 in
-    let these : is_numeral (leading_digits bytes) ≡ true = rw digits at (sym numeral) in
-    rw (one, digits, these) refl
+    rw (one, digits, numeral-leading bytes fields are numeral) refl
 
--- what is told of the value of digits by a value that is the same up to high
-pub value_between : (low high value whole : ℕ) → min value (high + 1) ≡ min whole (high + 1)
-    → low ≤ value → value ≤ high → (whole ≡ value) × ((leb low whole && leb whole high) ≡ true)
-value_between low high value whole same above below = (omega arith, grind (arith, nat_tests))
+pub value_between : (low high value : ℕ) → low ≤ value → value ≤ high → (leb low value && leb value high) ≡ true
+value_between low high value above below = grind (arith, nat_tests)
 
-pub value_outside : (low high value whole : ℕ) → min value (high + 1) ≡ min whole (high + 1)
-    → (value < low) ⊎ (high < value) → (leb low whole && leb whole high) ≡ false
-value_outside low high value whole same out = grind (arith, nat_tests)
+pub value_outside : (low high value : ℕ) → (value < low) ⊎ (high < value) → (leb low value && leb value high) ≡ false
+value_outside low high value out = grind (arith, nat_tests)

@@ -1,6 +1,6 @@
 //! The fields of a line, read from the left.
 
-ghost use Rattle.std.specs.Prelude.{◌≡◌, ◌<◌, ◌≤◌, ◌+◌, min, [], ◌∷◌, length, take, drop, position, ◌==◌, MatchOption};
+ghost use Rattle.std.specs.Prelude.{◌≡◌, ◌<◌, ◌≤◌, ◌+◌, [], ◌∷◌, length, take, drop, position, ◌==◌, MatchOption};
 ghost use Rattle.std.specs.Prelude.{true, false, List, ℕ};
 ghost use Rattle.worm_text.specs.Lines.{cut, space, fields_left, next_field};
 ghost use Rattle.worm_text.specs.Numerals.{leading_digits, is_numeral, value_of, is_name, is_lower_or_digit};
@@ -66,19 +66,15 @@ struct Digits {
     value: u64,
 }
 
-fn front_digits(bytes: &[u8], high: u32) -> Digits
+fn front_digits(bytes: &[u8]) -> Digits
     ensures count { result.count ≡ length (leading_digits bytes.now) }
-
-    // Both are the same number, or both are past `high`.
-    ensures value { min result.value (high + 1) ≡ min (value_of (leading_digits bytes.now)) (high + 1) }
+    ensures value { result.count ≤ 10 → result.value ≡ value_of (leading_digits bytes.now) }
 {
     let mut value = 0u64;
     let mut count = 0;
     while count < bytes.len() && bytes[count] >= b'0' && bytes[count] <= b'9' {
-        // Past `high` it stays so, however many digits follow.
-        if value <= u64::from(high) {
-            value = value * 10 + u64::from(bytes[count] - b'0');
-        }
+        let digit = u64::from(bytes[count] - b'0');
+        value = value.wrapping_mul(10).wrapping_add(digit);
         count += 1;
     }
     Digits { count, value }
@@ -174,11 +170,12 @@ impl<'a> Fields<'a> {
         let Some(rest) = self.rest else {
             return Err(Why::Missing);
         };
-        let front = front_digits(rest, high);
+        let front = front_digits(rest);
         if !self.take_numeral(rest, front.count) {
             return Err(Why::Number);
         }
-        if front.value < u64::from(low) || front.value > u64::from(high) {
+        // A number of more digits is past any `high`.
+        if front.count > 10 || front.value < u64::from(low) || front.value > u64::from(high) {
             return Err(Why::Range);
         }
         Ok(front.value as u32)
