@@ -1,9 +1,8 @@
 -- The nodes of a new network are put into their places group by group.
-use Rattle.std.proofs.Common.{◌≡◌, ℕ, ◌+◌, ◌%◌, ◌<◌, ◌≤◌, ◌==◌, cond, inl, inr, List, Option, None, Some, length}
-use Rattle.std.proofs.Common.{get_or, set, arith, ap, ◌∙◌}
+use Rattle.std.proofs.Common.{◌≡◌, ℕ, ◌+◌, ◌%◌, ◌<◌, ◌≤◌, inl, inr, List, Option, None, Some, length, get_or, set}
+use Rattle.std.proofs.Common.{get_or-set_same, get_or-set_other, arith, ◌∙◌}
+use Rattle.std.proofs.lemmas.Bool.Decides.{eqb_tells}
 use Rattle.std.proofs.lemmas.List.{length-set}
-use Rattle.worm_theory.proofs.Bridge.{get_or-set}
-use Rattle.worm_theory.proofs.Places.{bool_cases}
 use Rattle.worm_node.specs.NewNodes.{AreMade}
 use Rattle.worm_node.specs.NewNodes.{fresh_node}
 use Rattle.worm_node.specs.declared.node.Node.{Node}
@@ -24,23 +23,17 @@ module _ (mesh channels : List ℕ) (depth group node count : ℕ) (places : Lis
     abbrev pub after : List (Option Node)
     after = set places node (Some (fresh_node mesh channels depth node))
 
-    read : (x : ℕ) → get_or after x None
-        ≡ cond (x == node) (Some (fresh_node mesh channels depth node)) (get_or places x None)
-    read x =
+    is_put : (x : ℕ) → x ≡ node → get_or after x None ≡ Some (fresh_node mesh channels depth x)
+    is_put x same =
         let counted = below.counted in
-        get_or-set places node x (Some (fresh_node mesh channels depth node)) None (omega arith)
+        rw same (get_or-set_same places node (Some (fresh_node mesh channels depth node)) None (omega (arith, counted)))
 
     stays : (x : ℕ) → get_or places x None ≡ Some (fresh_node mesh channels depth x)
         → get_or after x None ≡ Some (fresh_node mesh channels depth x)
-    stays x made = elim (bool_cases (x == node)) [
-      | inl same ↦
-          read x
-          ∙ (λ t. cond (same t) (Some (fresh_node mesh channels depth node)) (get_or places x None))
-          ∙ ap (λ (n : ℕ). Some (fresh_node mesh channels depth n)) (grind arith)
+    stays x made = elim (eqb_tells x node) [
+      | inl same ↦ is_put x same.1
       | inr other ↦
-          read x
-          ∙ (λ t. cond (other t) (Some (fresh_node mesh channels depth node)) (get_or places x None))
-          ∙ made
+          get_or-set_other places node x (Some (fresh_node mesh channels depth node)) None other.1 ∙ made
     ]
 
     pub next : AreMadeBelow mesh channels depth group (node + 16) count after
@@ -50,25 +43,22 @@ module _ (mesh channels : List ℕ) (depth group node count : ℕ) (places : Lis
       before = λ x x_in lower.
           let long = length-set places node (Some (fresh_node mesh channels depth node)) in
           stays x (below.before x (omega (arith, x_in, long)) lower);
-      here = λ x x_in same x_below. elim (bool_cases (x == node)) [
-        | inl this ↦
-            read x
-            ∙ (λ t. cond (this t) (Some (fresh_node mesh channels depth node)) (get_or places x None))
-            ∙ ap (λ (n : ℕ). Some (fresh_node mesh channels depth n)) (grind arith)
+      here = λ x x_in same x_below. elim (eqb_tells x node) [
+        | inl this ↦ is_put x this.1
         | inr other ↦
             let remainder = below.remainder in
-            let apart : (x ≡ node) → ⊥ = λ e. grind arith in
+            let apart = other.1 in
             stays x (below.here x x_in same (omega (arith, x_below, same, remainder, apart)))
       ];
     }
 
   -- none of the group is left
   pub done : count ≤ node → AreMade mesh channels depth (group + 1) places
-  done past = λ x x_in lower. elim (bool_cases (x % 16 == group)) [
+  done past = λ x x_in lower. elim (eqb_tells (x % 16) group) [
     | inl this ↦
         let counted = below.counted in
-        below.here x (omega (arith, x_in, counted)) (grind arith) (omega (arith, x_in, counted, past))
+        below.here x (omega (arith, x_in, counted)) this.1 (omega (arith, x_in, counted, past))
     | inr other ↦
-        let apart : (x % 16 ≡ group) → ⊥ = λ e. grind arith in
+        let apart = other.1 in
         below.before x x_in (omega (arith, lower, apart))
   ]

@@ -1,10 +1,9 @@
-//! The nodes and links of a new network.
+//! The nodes of a new network.
 
-ghost use Rattle.std.specs.Prelude.{◌≡◌, ◌<◌, ◌≤◌, ◌+◌, IfOk, Err, Some, length, replicate, slice_set};
+ghost use Rattle.std.specs.Prelude.{◌≡◌, ◌<◌, ◌≤◌, ◌+◌, IfOk, Err, Some, length, slice_set};
 ghost use Rattle.worm_flit.specs.Channels.{AreChannels};
 ghost use Rattle.worm_mesh.specs.Address.{AreRadices, node_count};
 ghost use Rattle.worm_node.specs.NewNodes.{AreFresh, AreMade};
-ghost use Rattle.worm_wires.specs.Links.{empty_link};
 ghost use Rattle.worm_node.specs.NewNodes.{fresh_node};
 
 use crate::Node;
@@ -12,7 +11,6 @@ use std::alloc::{AllocError, Global};
 use worm_mesh::Mesh;
 use worm_router::Router;
 use worm_term::{Sink, Source};
-use worm_wires::LinkState;
 
 /// In how many groups a new network's nodes are made: a group's nodes, of one remainder by this, lie together in
 /// memory. A worker of 2, 4, 8 or 16 has whole groups, so that what it uses in a turn lies in few pages.
@@ -130,15 +128,4 @@ pub fn make_nodes(
         nodes.push(node)?;
     }
     Ok(nodes)
-}
-
-/// `count` links with nothing on them, each with room for `room` flits and `room` credits.
-pub fn fresh_links(alloc: Global, count: u16, room: u16) -> Result<Vec<LinkState>, AllocError>
-    ensures { IfOk result (λ v. v.items ≡ replicate count (empty_link room)) }
-{
-    let mut links = Vec::with_capacity(alloc, usize::from(count))?;
-    for _number in 0..count {
-        links.push(LinkState::new(alloc, room)?)?;
-    }
-    Ok(links)
 }

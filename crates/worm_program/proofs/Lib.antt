@@ -5,8 +5,5 @@ pub mod Scripts
 pub mod ByWorkers
 pub mod CutBehindEnd
 pub mod OneReport
-pub mod NumbersRead
-pub mod OptionsGiven
-pub mod Complete
 pub mod Statuses
 pub mod NoWant

@@ -1,16 +1,10 @@
 -- The line that the program says of a fault on the standard error, and the status that it ends with.
 use Rattle.std.specs.Prelude.{◌≡◌, ◌≤◌, ◌⊎◌, ℕ, List, ◌++◌, codes, decimal, Result, Ok, Err}
-use Rattle.clap.specs.Values.{kind_of}
-use Rattle.clap.specs.declared.error.Error.{Error}
-use Rattle.clap.specs.declared.error.kind.ErrorKind.{ErrorKind}
-use Rattle.clap.specs.declared.error.kind.ErrorKind.TheVariants as clap
-use Rattle.std.specs.declared.io.ErrorKind.{ErrorKind as IoErrorKind}
-use Rattle.std.specs.declared.io.ErrorKind.TheVariants as io
 use Rattle.worm_text.specs.Faults.{words_of}
 use Rattle.worm_program.specs.declared.fault.ProgramFault.{ProgramFault}
 use Rattle.worm_program.specs.declared.fault.ProgramFault.TheVariants as f
-use Rattle.worm_program.specs.declared.words.WordsFault.{WordsFault}
-use Rattle.worm_program.specs.declared.words.WordsFault.TheVariants as w
+use Rattle.worm_words.specs.declared.words.WordsFault.{WordsFault}
+use Rattle.worm_words.specs.declared.words.WordsFault.TheVariants as w
 
 abbrev pub line_of : ProgramFault → List ℕ
 line_of f.Workers = codes "wormrun: more workers than nodes"
@@ -46,25 +40,3 @@ abbrev pub words_status : WordsFault → ℕ
 words_status (w.Words error) = 2
 words_status w.NotText = 2
 words_status w.NoMemory = 6
-
--- want of memory is answered as such, and anything else that the parser says as what it says
-abbrev pub parser_fault : ErrorKind → Error → WordsFault
-parser_fault clap.OutOfMemory error = w.NoMemory
-parser_fault _ error = w.Words error
-
--- the list of words was not given: one is no text, unless there was no memory
-abbrev pub list_fault : IoErrorKind → WordsFault
-list_fault io.OutOfMemory = w.NoMemory
-list_fault _ = w.NotText
-
--- a list of texts is refused by what the parser says of it, or for want of memory, which the parser does not say
-abbrev pub IsNoCommand : WordsFault → Type 0
-IsNoCommand (w.Words error) = ¬ (kind_of error ≡ clap.OutOfMemory)
-IsNoCommand w.NotText = ⊥
-IsNoCommand w.NoMemory = Unit {0}
-
--- before the parser has a list of texts it says nothing
-abbrev pub IsNoList : WordsFault → Type 0
-IsNoList (w.Words error) = ⊥
-IsNoList w.NotText = Unit {0}
-IsNoList w.NoMemory = Unit {0}

@@ -29,10 +29,9 @@ use Rattle.worm_report.specs.Seen.{seen}
 use Rattle.worm_report.specs.Writing.{AreLines}
 use Rattle.worm_program.specs.declared.fault.ProgramFault.{ProgramFault}
 use Rattle.worm_program.specs.declared.fault.ProgramFault.TheVariants as f
-use Rattle.worm_program.specs.declared.words.Options.{Options}
+use Rattle.worm_words.specs.declared.words.Options.{Options}
 use Rattle.worm_program.specs.Programs.{FailsAlone, FailsReading, GaveBoth, IsCutShort, IsRefusedAs, RanOutAtEntry}
 use Rattle.worm_program.specs.Programs.{ReportsAlone, SaysNetwork, SaysTraffic, Stream, WritesFront}
-use Rattle.worm_program.specs.Ranges.{plan_of}
 
 -- Stops
 
@@ -61,6 +60,10 @@ IsNoRefusal NoMemory = Unit {0}
 IsNoRefusal (Refused why) = ⊥
 
 -- Runs
+
+-- what the options ask the workers for
+abbrev pub plan_of : Options → RunPlan
+plan_of o = record { turns = o.turns; workers = o.workers }
 
 -- the drain follows where nobody was stopped; else want of memory is told
 abbrev pub DrainsUnstopped : ℕ → List Stop → NetState → Option StepFault → NetState → Type 0

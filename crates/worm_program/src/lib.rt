@@ -9,16 +9,15 @@ ghost use Rattle.clap.specs.Walk.{texts};
 ghost use Rattle.clap.specs.Words.{fault_of};
 ghost use Rattle.std.specs.Prelude.{◌≡◌, ◌≢◌, ◌<◌, ◌⊎◌, [], length};
 ghost use Rattle.std.specs.Process.{exit_status};
-ghost use Rattle.worm_program.specs.Commands.{command};
+ghost use Rattle.worm_words.specs.Commands.{command};
 ghost use Rattle.worm_program.specs.Faults.{ended_status, words_status, IsStatus};
-ghost use Rattle.worm_program.specs.Ranges.{InRange};
+ghost use Rattle.worm_words.specs.Ranges.{InRange};
 
 mod fault;
 mod joined;
 mod program;
 mod together;
 mod turns;
-mod words;
 
 pub use fault::ProgramFault;
 pub use joined::network_end;
@@ -29,8 +28,8 @@ use std::rt::{Env, Files};
 use std::sync::Wait;
 use std::thread::Threads;
 use std::{fs, io};
-pub use words::{Options, Words, WordsFault, all_words, read_words};
 use worm_run::Paced;
+pub use worm_words::{Options, Words, WordsFault, all_words, read_words};
 
 fn run_files<R: Files + Print + AllocGlobal, T: Threads + Wait + Sync>(
     rt: &R,

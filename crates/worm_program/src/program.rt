@@ -11,9 +11,9 @@ ghost use Rattle.worm_text.specs.Network.{view, Keeps as KeepsRules};
 ghost use Rattle.worm_text.specs.declared.format.Format.{Format};
 ghost use Rattle.worm_text.specs.ScriptView.{said_of};
 ghost use Rattle.worm_mesh.specs.Address.{node_count};
-ghost use Rattle.worm_program.specs.Ranges.{InRange, plan_of};
+ghost use Rattle.worm_words.specs.Ranges.{InRange};
 ghost use Rattle.worm_program.specs.Together.{FailsByWorkers, FailsTogether, ReportsByWorkers, ReportsTogether};
-ghost use Rattle.worm_program.specs.Together.{RunsTexts};
+ghost use Rattle.worm_program.specs.Together.{RunsTexts, plan_of};
 ghost use Rattle.worm_program.specs.Programs.{Fails, FailsAlone, FailsJoined, GaveBoth, IsNotAccepted, ReadsNot};
 ghost use Rattle.worm_program.specs.Programs.{Reports};
 ghost use Rattle.worm_program.specs.Programs.{ReportsAlone, ReportsJoined, SaysNetwork, SaysTraffic, WritesReport};
@@ -24,7 +24,6 @@ use crate::fault::ProgramFault;
 use crate::joined::network_end;
 use crate::together::run_together;
 use crate::turns::{Ending, run_script};
-use crate::words::Options;
 use std::alloc::Global;
 use std::io::{Read, Write};
 use std::sync::Wait;
@@ -34,6 +33,7 @@ use worm_mesh::Mesh;
 use worm_report::{ReportFault, Summary, write_report};
 use worm_run::{Gate, RunPlan};
 use worm_text::{ReadFault, Why, read_network, read_text, read_traffic};
+use worm_words::Options;
 
 /// The most bytes that a text may have: 8 MiB.
 pub const MOST_BYTES: usize = 8_388_608;

@@ -32,10 +32,10 @@ use std::alloc::{AllocError, Global};
 use std::marker::Model;
 use worm_flit::{ClassChannels, Flit};
 use worm_mesh::Mesh;
-use worm_node::{fresh_links, make_nodes};
+use worm_node::make_nodes;
 use worm_router::Router;
 use worm_term::Source;
-use worm_wires::{Inboxes, Links};
+use worm_wires::{Inboxes, Links, fresh_links};
 
 /// The nodes by number and the links by number, whatever they hold (Dally and Towles, chapters 5, 13 and 16).
 #[derive(Drop)]

@@ -6,11 +6,13 @@
 //! Nothing is said of routers or of threads: the queues between two threads are in `worm_links`.
 #![tactic(auto)]
 
+mod fresh;
 mod inbox;
 mod link;
 mod links;
 mod wiring;
 
+pub use fresh::fresh_links;
 pub use inbox::Inboxes;
 pub use link::LinkState;
 pub use links::Links;

@@ -12,10 +12,10 @@ use Rattle.clap.specs.declared.error.Error.{Error}
 use Rattle.clap.specs.declared.error.kind.ErrorKind.{ErrorKind}
 use Rattle.clap.specs.declared.error.kind.ErrorKind.TheVariants.{OutOfMemory}
 use Rattle.clap.proofs.TakesLemmas.{passed_up}
-use Rattle.worm_program.specs.Commands.{IsRefused, Say, command}
-use Rattle.worm_program.specs.Faults.{parser_fault}
-use Rattle.worm_program.proofs.Complete.{complete}
-use Rattle.worm_program.proofs.words.read_words.Goals as goal
+use Rattle.worm_words.specs.Commands.{IsRefused, Say, command}
+use Rattle.worm_words.specs.Faults.{parser_fault}
+use Rattle.worm_words.proofs.Complete.{complete}
+use Rattle.worm_words.proofs.words.read_words.Goals as goal
 
 simple : is_simple command ≡ true
 unfolding command

@@ -6,8 +6,8 @@ use Rattle.clap.specs.Walk.{Rule, rule_of}
 use Rattle.clap.specs.declared.builder.arg.Arg.{Arg}
 use Rattle.clap.specs.declared.builder.value_parser.ValueParser.{ValueParser}
 use Rattle.clap.specs.declared.builder.value_parser.ValueParser.TheVariants.{Unsigned}
-use Rattle.worm_program.specs.Commands.{command, drain_option, number, turns_option, workers_option}
-use Rattle.worm_program.proofs.words.command.Goals as goal
+use Rattle.worm_words.specs.Commands.{command, drain_option, number, turns_option, workers_option}
+use Rattle.worm_words.proofs.words.command.Goals as goal
 
 -- the command before it has arguments
 abbrev bare : App

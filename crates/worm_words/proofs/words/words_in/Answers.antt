@@ -8,8 +8,8 @@ use Rattle.clap.specs.Values.{IsUnsignedIn}
 use Rattle.clap.specs.Walk.{Text, one_of, rows_of}
 use Rattle.clap.specs.declared.parser.matches.ArgMatches.{ArgMatches}
 use Rattle.clap.proofs.WalkLemmas.{first_value-rows, one_text-rows}
-use Rattle.worm_program.proofs.NumbersRead.{IsRead, number_read, read_there, some_shown}
-use Rattle.worm_program.proofs.words.words_in.Goals as goal
+use Rattle.worm_words.proofs.NumbersRead.{IsRead, number_read, read_there, some_shown}
+use Rattle.worm_words.proofs.words.words_in.Goals as goal
 
 abbrev Gives : Text → Result ℕ ParseIntError → Type 0
 Gives t r = ParsesUnsigned 64 10 t r × ExplainsUnsignedError 10 t r × HasUnsignedDigitsIfOk t r

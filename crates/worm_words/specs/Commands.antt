@@ -7,9 +7,9 @@ use Rattle.clap.specs.Simple.{new_shape}
 use Rattle.clap.specs.declared.builder.action.ArgAction.TheVariants.{Set}
 use Rattle.clap.specs.declared.builder.value_parser.ValueParser.{ValueParser}
 use Rattle.clap.specs.declared.builder.value_parser.ValueParser.TheVariants.{Unsigned}
-use Rattle.worm_program.specs.declared.words.Words.{Words}
-use Rattle.worm_program.specs.declared.words.WordsFault.{WordsFault}
-use Rattle.worm_program.specs.declared.words.WordsFault.TheVariants as w
+use Rattle.worm_words.specs.declared.words.Words.{Words}
+use Rattle.worm_words.specs.declared.words.WordsFault.{WordsFault}
+use Rattle.worm_words.specs.declared.words.WordsFault.TheVariants as w
 
 -- The command
 

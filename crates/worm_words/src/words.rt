@@ -1,20 +1,20 @@
-//! The words of the command line.
+//! The words of the command line of `wormrun`.
 
 ghost use Rattle.clap.specs.Words.{app_of, fault_of, found_of, kind_of, matches_of, rows_of, rule_of, takes};
 ghost use Rattle.clap.specs.Walk.{texts};
 ghost use Rattle.std.specs.IoError.{error_kind};
 ghost use Rattle.std.specs.Prelude.{◌≡◌, ◌<◌, [], length, true, false, IfOk, IfErr, OnOk};
-ghost use Rattle.worm_program.specs.Commands.{command, file, number, IsComplete, IsRefused, Say};
-ghost use Rattle.worm_program.specs.Faults.{parser_fault, list_fault, IsNoList, IsNoCommand};
-ghost use Rattle.worm_program.specs.Ranges.{InRange};
+ghost use Rattle.worm_words.specs.Commands.{command, file, number, IsComplete, IsRefused, Say};
+ghost use Rattle.worm_words.specs.Faults.{parser_fault, list_fault, IsNoList, IsNoCommand};
+ghost use Rattle.worm_words.specs.Ranges.{InRange};
 
+use crate::named::Named;
 use clap::builder::ValueParser;
 use clap::error::ErrorKind;
 use clap::{Arg, ArgAction, ArgMatches, Command, Error, value_parser};
 use std::alloc::{AllocError, Global};
 use std::io;
 use std::rt::Env;
-use worm_words::Named;
 
 /// How to run.
 #[derive(Clone, Copy, PartialEq, Eq, Debug)]
@@ -50,7 +50,7 @@ pub enum WordsFault {
 }
 
 impl From<AllocError> for WordsFault {
-    ghost use Rattle.worm_program.specs.declared.words.WordsFault.TheVariants.{NoMemory};
+    ghost use Rattle.worm_words.specs.declared.words.WordsFault.TheVariants.{NoMemory};
 
     ghost from_gives = { λ _ fault. fault ≡ NoMemory };
 

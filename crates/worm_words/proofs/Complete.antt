@@ -27,9 +27,9 @@ use Rattle.clap.proofs.CallerLemmas.{default_present, present_has_entry, require
 use Rattle.clap.proofs.SimpleLemmas.{HasPlainFields, is_false, is_nil, plain_fields}
 use Rattle.clap.proofs.TakesLemmas.{each_rule}
 use Rattle.clap.proofs.WalkLemmas.{both, first_value-rows, one_text-rows}
-use Rattle.worm_program.specs.Commands.{IsComplete, arguments, command, drain_option, file, turns_option}
-use Rattle.worm_program.specs.Commands.{workers_option}
-use Rattle.worm_program.proofs.OptionsGiven.{TakesValues, option_given}
+use Rattle.worm_words.specs.Commands.{IsComplete, arguments, command, drain_option, file, turns_option}
+use Rattle.worm_words.specs.Commands.{workers_option}
+use Rattle.worm_words.proofs.OptionsGiven.{TakesValues, option_given}
 
 -- Lists
 

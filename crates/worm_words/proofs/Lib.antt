@@ -1,0 +1,3 @@
+pub mod NumbersRead
+pub mod OptionsGiven
+pub mod Complete
