@@ -14,6 +14,11 @@ use Rattle.worm_wires.proofs.EachKind.{credits_kind, flits_kind}
 use Rattle.worm_wires.proofs.TraysSeen.{set_seen}
 use Rattle.worm_wires.proofs.Wired.{numbers_there, parts}
 
+-- the links with what is on them, as they are seen
+pub record AreSeen (mesh : List ℕ) (lists : List LinkView) (inboxes : List Inbox) (now : LinksView) : Type 0 where
+  pub sound : AreInboxes mesh lists inboxes
+  pub seen : record { mesh = mesh; states = links_by mesh lists inboxes } ≡ now
+
 -- the links as a call has them, and a node's inbox, which is read at some place
 pub record IsCall (mesh : List ℕ) (lists : List LinkView) (inboxes : List Inbox) (now : LinksView) (x i : ℕ)
     (read : Inbox) : Type 0 where
@@ -107,20 +112,3 @@ pub linked_of : (mesh : List ℕ) (states : List LinkView) (now : LinksView) (x 
 linked_of mesh states now x p same some =
     linked_by mesh states now x p same (neighbour_of mesh x p) refl
     (subst (λ (l : LinksView). IsSome (neighbour_of l.mesh x p)) (sym same) some)
-
--- and the port that is entered beyond it
-pub record IsBeyond (mesh : List ℕ) (now : LinksView) (x p y q : ℕ) : Type 0 where
-  pub into : in_link mesh y q ≡ Some (number_out now x p)
-  pub out : out_link mesh y q ≡ Some (number_into now x p)
-
-pub beyond_of : (mesh : List ℕ) (states : List LinkView) (now : LinksView) (x p y q : ℕ) → AreRadices mesh
-    → record { mesh = mesh; states = states } ≡ now → Some y ≡ neighbour_of mesh x p → q ≡ opposite_of p
-    → IsBeyond mesh now x p y q
-beyond_of mesh states now x p y q radices same e entered = record {
-  into = ap (λ (o : ℕ). in_link mesh y o) entered ∙ into_beyond mesh x p y radices (sym e)
-      ∙ ap (λ (l : LinksView). Some (number_out l x p)) same;
-  out = ap (λ (o : ℕ). out_link mesh y o) entered
-      ∙ ap (λ (n : Option ℕ). option_map (λ z. links_before mesh y (opposite_of p)) n)
-      (back_of mesh x p y radices (sym e))
-      ∙ ap (λ (n : Option ℕ). Some (into_from mesh p n)) e ∙ ap (λ (l : LinksView). Some (number_into l x p)) same;
-}

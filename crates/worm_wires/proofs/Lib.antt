@@ -16,3 +16,4 @@ pub mod TrayMoved
 pub mod InboxFilled
 pub mod AllSpilled
 pub mod Spilled
+pub mod Moved

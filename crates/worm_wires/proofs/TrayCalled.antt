@@ -10,8 +10,8 @@ use Rattle.worm_wires.specs.Arrivals.{LinksView, has_front, on_link, state_at, w
 use Rattle.worm_wires.specs.Inbox.{AreInboxes, Inbox, IsFiled, IsWay, IsWayOf, Kind, front_of, inbox_at, links_by}
 use Rattle.worm_wires.specs.Inbox.{room_of, whole}
 use Rattle.worm_wires.specs.Links.{LinkView, blank_link}
-use Rattle.worm_wires.proofs.Called.{IsCall, inbox_is, list_is}
-use Rattle.worm_wires.proofs.EachKind.{IsKind}
+use Rattle.worm_wires.proofs.Called.{AreSeen, IsCall, inbox_is, list_is}
+use Rattle.worm_wires.proofs.EachKind.{IsKind, IsWritten}
 use Rattle.worm_wires.proofs.TraysWritten.{IsWrite}
 use Rattle.worm_wires.proofs.TraysSeen.{neighbour_some}
 use Rattle.worm_wires.proofs.Ways.{not_here, all_listed, comes_by, first_by, front_by, not_listed, spilled_way}
@@ -96,7 +96,7 @@ module _ {A B : Type 0} {kind : Kind A} {other : Kind B} {put : LinkView → Lis
       pub the_list : list ≡ get_or lists k blank_link
       the_list = list_is lists k j list there at reads
 
-      way_read : IsWayOf (kind.tray read) p (kind.list list) list.room
+      pub way_read : IsWayOf (kind.tray read) p (kind.list list) list.room
       way_read =
           subst (λ (l : LinkView). IsWayOf (kind.tray read) p (kind.list l) l.room) (sym the_list) way
 
@@ -145,24 +145,21 @@ module _ {A B : Type 0} {kind : Kind A} {other : Kind B} {put : LinkView → Lis
           way = way_now;
         }
 
-        pub both_sound : AreInboxes mesh (set lists j link) (set inboxes i box)
-        both_sound =
-            subst (λ (v : ℕ). AreInboxes mesh (set lists v link) (set inboxes i box)) (sym at)
-            (subst (λ (v : ℕ). AreInboxes mesh (set lists k link) (set inboxes v box)) (sym call.at)
-            (is.written mesh lists inboxes call.sound x p k box link here more front write).sound)
+        written : IsWritten kind put mesh lists inboxes p k (set inboxes x box) box link here
+        written = is.written mesh lists inboxes call.sound x p k box link here more front write
 
-        pub both_seen : (n : ℕ) (fs : List A) → n ≡ k
-            → whole here (slice_get (kind.tray box).front p) (kind.list link) ≡ fs
-            → record { mesh = mesh; states = links_by mesh (set lists j link) (set inboxes i box) }
-            ≡ with_state now n (put (state_at now n) fs)
-        both_seen n fs same_number all =
-            (λ t. record { mesh = mesh; states = links_by mesh (set lists (at t) link) (set inboxes (call.at t) box) })
-            ∙ (λ t. record {
-              mesh = mesh;
-              states = (is.written mesh lists inboxes call.sound x p k box link here more front write).seen t;
-            })
-            ∙ (λ t. with_state (call.seen t) (sym same_number t) (put (state_at (call.seen t) (sym same_number t))
-            (all t)))
+        pub both_written : (fs : List A) → whole here (slice_get (kind.tray box).front p) (kind.list link) ≡ fs
+            → AreSeen mesh (set lists j link) (set inboxes i box) (with_state now k (put (state_at now k) fs))
+        both_written fs all = record {
+          sound = subst (λ (v : ℕ). AreInboxes mesh (set lists v link) (set inboxes i box)) (sym at)
+              (subst (λ (v : ℕ). AreInboxes mesh (set lists k link) (set inboxes v box)) (sym call.at) written.sound);
+          seen = (λ t. record {
+            mesh = mesh;
+            states = links_by mesh (set lists (at t) link) (set inboxes (call.at t) box);
+          })
+              ∙ (λ t. record { mesh = mesh; states = written.seen t })
+              ∙ (λ t. with_state (call.seen t) k (put (state_at (call.seen t) k) (all t)));
+        }
 
       -- all that comes in is put into the list
       module _ (box : Inbox)
@@ -187,16 +184,17 @@ module _ {A B : Type 0} {kind : Kind A} {other : Kind B} {put : LinkView → Lis
             (λ t. whole true (first t) (spilled t)) ∙ whole_twice (slice_get (kind.tray read).front p) (kind.list list)
             ∙ sym (seen_read k refl some)
 
-        pub spilled_alike : AreInboxes mesh (set lists j link) (set inboxes i box)
-            × (links_by mesh (set lists j link) (set inboxes i box) ≡ links_by mesh lists inboxes)
-        spilled_alike = (
-          both_sound box true true (slice_get (kind.tray read).front p) filed kept link same room way_spilled,
-          ap (λ (l : LinksView). l.states)
-              (both_seen box true true (slice_get (kind.tray read).front p) filed kept link same room way_spilled k
-              (kind.list (state_at now k)) refl same_now
-              ∙ ap (λ (l : LinkView). with_state now k l) (is.is_put (state_at now k))
-              ∙ (λ t. record { mesh = now.mesh; states = set-get_or now.states k blank_link t }) ∙ sym call.seen),
-        )
+        pub spilled_alike : AreSeen mesh (set lists j link) (set inboxes i box) now
+        spilled_alike =
+            let put_there =
+            both_written box true true (slice_get (kind.tray read).front p) filed kept link same room way_spilled
+            (kind.list (state_at now k)) same_now in
+            record {
+              sound = put_there.sound;
+              seen = put_there.seen
+                  ∙ ap (λ (l : LinkView). with_state now k l) (is.is_put (state_at now k))
+                  ∙ (λ t. record { mesh = now.mesh; states = set-get_or now.states k blank_link t });
+            }
 
     -- the inbox alone is written
     module _ (box : Inbox) (here more : Bool) (front : Option A)
@@ -206,21 +204,11 @@ module _ {A B : Type 0} {kind : Kind A} {other : Kind B} {put : LinkView → Lis
       stands : get_or lists k blank_link ≡ get_or lists k (get_or lists k blank_link)
       stands = sym (get_or_default lists k (get_or lists k blank_link) blank_link there)
 
-      pub inbox_sound : AreInboxes mesh lists (set inboxes i box)
-      inbox_sound =
-          subst (λ (l : List LinkView). AreInboxes mesh l (set inboxes i box)) (set-get_or lists k blank_link)
-          (both_sound k (get_or lists k blank_link) refl stands box here more front filed kept
-          (get_or lists k blank_link) refl refl way_now)
-
-      pub inbox_seen : (n : ℕ) (fs : List A) → n ≡ k
+      pub inbox_written : (fs : List A)
           → whole here (slice_get (kind.tray box).front p) (kind.list (get_or lists k blank_link)) ≡ fs
-          → record { mesh = mesh; states = links_by mesh lists (set inboxes i box) }
-          ≡ with_state now n (put (state_at now n) fs)
-      inbox_seen n fs same all =
-          (λ t. record {
-            mesh = mesh;
-            states = links_by mesh (sym (set-get_or lists k blank_link) t)
-                (set inboxes i box);
-          })
-          ∙ both_seen k (get_or lists k blank_link) refl stands box here more front filed kept
-          (get_or lists k blank_link) refl refl way_now n fs same all
+          → AreSeen mesh lists (set inboxes i box) (with_state now k (put (state_at now k) fs))
+      inbox_written fs all =
+          subst (λ (l : List LinkView). AreSeen mesh l (set inboxes i box) (with_state now k (put (state_at now k) fs)))
+          (set-get_or lists k blank_link)
+          (both_written k (get_or lists k blank_link) refl stands box here more front filed kept
+          (get_or lists k blank_link) refl refl way_now fs all)
