@@ -56,39 +56,6 @@ pub list_is : (lists : List LinkView) (k j : ℕ) (list : LinkView) → k < leng
 list_is lists k j list there same reads =
     reads ∙ (λ t. get_or lists (same t) list) ∙ get_or_default lists k list blank_link there
 
--- The call's port, by its links
-
--- what a call is told of the links of a port
-pub record AreNumbers (mesh : List ℕ) (now : LinksView) (x p : ℕ) (links : PortLinks) : Type 0 where
-  -- by what is seen
-  pub out_now : number_out now x p ≡ links.out
-  pub into_now : number_into now x p ≡ links.into
-  -- of the port beyond
-  pub in_beyond : in_link mesh links.beyond links.entered ≡ Some links.out
-  pub out_beyond : out_link mesh links.beyond links.entered ≡ Some links.into
-
-pub numbers_by : (mesh : List ℕ) (states : List LinkView) (now : LinksView) (x p : ℕ) (links : PortLinks)
-    → AreRadices mesh → record { mesh = mesh; states = states } ≡ now
-    → ◌≡◌ {A = Option PortLinks} (Some links) (port_links mesh x p) → AreNumbers mesh now x p links
-numbers_by mesh states now x p links radices same linked =
-    let these = parts mesh x p links linked in
-    let numbers = numbers_there mesh x p links linked in
-    let entered : links.entered ≡ opposite_of p = ap (λ (l : PortLinks). l.entered) these.1 in
-    let out : links.out ≡ links_before mesh x p = ap (λ (l : PortLinks). l.out) these.1 in
-    let into : links.into ≡ links_before mesh links.beyond (opposite_of p) = ap (λ (l : PortLinks). l.into) these.1 in
-    record {
-      out_now = ap (λ (l : LinksView). number_out l x p) (sym same) ∙ sym numbers.0;
-      into_now = ap (λ (l : LinksView). number_into l x p) (sym same) ∙ sym numbers.1;
-      in_beyond =
-          ap (λ (q : ℕ). in_link mesh links.beyond q) entered ∙ into_beyond mesh x p links.beyond radices these.0
-          ∙ ap (λ (k : ℕ). Some k) (sym out);
-      out_beyond =
-          ap (λ (q : ℕ). out_link mesh links.beyond q) entered
-          ∙ ap (λ (n : Option ℕ). option_map (λ y. links_before mesh links.beyond (opposite_of p)) n)
-          (back_of mesh x p links.beyond radices these.0)
-          ∙ ap (λ (k : ℕ). Some k) (sym into);
-    }
-
 -- a port that has a neighbour, and the numbers of its links
 
 pub record IsLinked (mesh : List ℕ) (now : LinksView) (x p : ℕ) : Type 0 where

@@ -1,23 +1,28 @@
 -- What a pop, a push and a spill leave of the links, where a node's inbox is read and written in the two places where
 -- it stands.
 use Rattle.std.proofs.Common.{◌≡◌, ℕ, ◌<◌, ◌≤◌, ◌++◌, Bool, true, false, List, [], ◌∷◌, length, length-set, get_or, set}
-use Rattle.std.proofs.Common.{drop, Option, Some, None, arith, refl, ap, sym, subst, ◌∙◌}
+use Rattle.std.proofs.Common.{cond, drop, Option, Some, None, arith, refl, ap, sym, subst, ◌∙◌}
 use Rattle.std.specs.Prelude.{IsSome, slice_get}
 use Rattle.worm_flit.specs.SmallSet.{has, IsPut}
 use Rattle.worm_mesh.specs.Address.{AreRadices, neighbour_of, opposite_of}
 use Rattle.worm_wires.specs.Arrivals.{LinksView, has_front, state_at, with_state}
 use Rattle.worm_wires.specs.Inbox.{AreFiled, AreSeenAlike, Inbox, IsFiled, IsPortSpilled, IsWayOf, Kind, Tray, inbox_by}
 use Rattle.worm_wires.specs.Inbox.{inboxes_by, links_by, tray_of, whole}
-use Rattle.worm_wires.specs.Links.{LinkView}
+use Rattle.worm_wires.specs.Links.{LinkView, blank_link}
+use Rattle.worm_wires.specs.Wiring.{port_links}
 use Rattle.worm_wires.specs.declared.inbox.Arrivals.{Arrivals}
 use Rattle.worm_wires.specs.declared.inbox.Fronts.{Fronts}
 use Rattle.worm_wires.specs.declared.inbox.NodeFronts.{NodeFronts}
+use Rattle.worm_wires.specs.declared.wiring.PortLinks.{PortLinks}
 use Rattle.worm_wires.proofs.Called.{IsCall}
 use Rattle.worm_wires.proofs.EachKind.{IsKind}
 use Rattle.worm_wires.proofs.Joined.{AreLinks, call_of, fronts_set, joined_set, links_are, sets_set}
 use Rattle.worm_wires.proofs.Spilled.{port_put, port_stays}
-use Rattle.worm_wires.proofs.TrayCalled.{linked_read, none_come, none_more, spilled_alike, way_read}
+use Rattle.worm_wires.proofs.TrayCalled.{linked_read, none_come, none_more, seen_is, spilled_alike, the_list, way}
+use Rattle.worm_wires.proofs.TrayCalled.{way_read}
 use Rattle.worm_wires.proofs.TrayMoved.{alone_pushed, behind_pushed, fits_behind, left_popped, lone_popped}
+use Rattle.worm_wires.proofs.Ways.{all_listed, alone_at, count_alone}
+use Rattle.worm_wires.proofs.Wired.{parts}
 
 -- The link of a port that has a neighbour, and of the port that is entered beyond it
 
@@ -34,6 +39,12 @@ module _ {A B : Type 0} {kind : Kind A} {other : Kind B} {put : LinkView → Lis
   beyond {y} radices e entered =
       ap (λ (o : ℕ). kind.link mesh y o) entered ∙ is.beyond mesh x p y radices (sym e)
       ∙ ap (λ (l : LinksView). Some (other.number l.mesh x p)) seen
+
+  pub by_links : {links : PortLinks} → AreRadices mesh → Some links ≡ port_links mesh x p
+      → kind.link mesh links.beyond links.entered ≡ Some (other.number now.mesh x p)
+  by_links {links} radices there =
+      let these = parts mesh x p links there in
+      beyond radices (sym these.0) (ap (λ (l : PortLinks). l.entered) these.1)
 
 module _ {A B : Type 0} {kind : Kind A} {other : Kind B} {put : LinkView → List A → LinkView}
     (is : IsKind kind other put) {mesh : List ℕ} {lists : List LinkView} {arrivals : List Arrivals}
@@ -114,6 +125,36 @@ module _ {A B : Type 0} {kind : Kind A} {other : Kind B} {put : LinkView → Lis
         (alone_pushed is call by _ (is.put_other sets f here these) item (here_read p none) fits
         (written here these true false (Some item) placed))
 
+    -- what is seen on the link is what comes in by the port
+    seen_read : kind.list (state_at now k) ≡ whole (has (kind.here sets) p) (slice_get (kind.fronts f).front p)
+        (kind.list (get_or lists k blank_link))
+    seen_read =
+        seen_is is call by k refl
+        ∙ ap (λ (t : Tray A). whole (has t.here p) (slice_get t.front p) (kind.list (get_or lists k blank_link))) read
+
+    way_at : IsWayOf (tray_of (kind.here sets) (kind.fronts f)) p (kind.list (get_or lists k blank_link))
+        (get_or lists k blank_link).room
+    way_at =
+        subst (λ (t : Tray A). IsWayOf t p (kind.list (get_or lists k blank_link)) (get_or lists k blank_link).room) read
+        (way is call by)
+
+    -- where the link has no list
+
+    pub lone_count : has (kind.fronts f).more p ≡ false
+        → length (kind.list (state_at now k)) ≡ cond (has (kind.here sets) p) 1 0
+    lone_count none =
+        ap (λ (l : List A). length l) seen_read
+        ∙ count_alone (has (kind.here sets) p) (has (kind.fronts f).more p) (slice_get (kind.fronts f).front p) _ _ way_at
+        none
+
+    pub lone_at : has (kind.fronts f).more p ≡ false → (n : ℕ) → n < length (kind.list (state_at now k)) → (q : ℕ)
+        (d : A) → q ≡ p → slice_get (kind.list (state_at now k)) n ≡ Some (get_or (kind.fronts f).front q d)
+    lone_at none n below q d same =
+        let long = ap (λ (l : List A). length l) seen_read in
+        ap (λ (l : List A). slice_get l n) seen_read
+        ∙ alone_at (has (kind.here sets) p) (has (kind.fronts f).more p) (slice_get (kind.fronts f).front p) _ _ way_at
+        none n (omega (arith, below, long)) (kind.fronts f).front p q d same refl
+
     -- where none is seen none comes in, and where none comes in the link has no list
     none_here : kind.list (state_at now k) ≡ [] → has (kind.here sets) p ≡ false
     none_here empty = sym (here_read p refl) ∙ none_come is call by k refl empty
@@ -142,6 +183,14 @@ module _ {A B : Type 0} {kind : Kind A} {other : Kind B} {put : LinkView → Lis
       way_behind =
           subst (λ (t : Tray A). IsWayOf t p (kind.list list) list.room) read
           (way_read is call by j list number there)
+
+      -- what is seen on it, where it has one
+      pub seen_listed : has (kind.fronts f).more p ≡ true → kind.list (state_at now k) ≡ kind.list list
+      seen_listed some =
+          seen_read
+          ∙ all_listed (has (kind.here sets) p) (has (kind.fronts f).more p) (slice_get (kind.fronts f).front p) _ _
+          way_at some
+          ∙ ap (λ (v : LinkView). kind.list v) (sym (the_list is call by j list number there))
 
       -- what a push behind those that come in asks of the list
       pub pushes : has (kind.here sets) p ≡ true → length (kind.list (state_at now k)) < (state_at now k).room

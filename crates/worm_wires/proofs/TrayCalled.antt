@@ -84,13 +84,6 @@ module _ {A B : Type 0} {kind : Kind A} {other : Kind B} {put : LinkView → Lis
         (λ t. (state_at (sym call.seen t) (same t)).room)
         ∙ is.room_seen mesh lists inboxes call.sound.radices x p k by
 
-    pub seen_listed : (n : ℕ) → n ≡ k → has (kind.tray read).more p ≡ true
-        → kind.list (state_at now n) ≡ kind.list (get_or lists k blank_link)
-    seen_listed n same some =
-        seen_is n same
-        ∙ all_listed (has (kind.tray read).here p) (has (kind.tray read).more p) (slice_get (kind.tray read).front p) _
-        (get_or lists k blank_link).room way some
-
     -- by the list as it is read
     module _ (j : ℕ) (list : LinkView) (at : j ≡ k) (reads : list ≡ get_or lists j list) where
       pub the_list : list ≡ get_or lists k blank_link

@@ -44,13 +44,15 @@ impl Model for Links {
 fn front_flit(lists: &[LinkState], number: Option<u16>) -> Option<Flit>
     ensures { result ≡ slice_get (flits_of lists.now number) 0 }
 {
-    lists.get(usize::from(number?))?.front().copied()
+    let link = lists.get(usize::from(number?))?;
+    link.flits.front().copied()
 }
 
 fn front_credit(lists: &[LinkState], number: Option<u16>) -> Option<u8>
     ensures { result ≡ slice_get (credits_of lists.now number) 0 }
 {
-    lists.get(usize::from(number?))?.front_credit()
+    let link = lists.get(usize::from(number?))?;
+    link.credits.front().copied()
 }
 
 fn inbox_of(wiring: &Wiring, lists: &[LinkState], node: u8) -> (Arrivals, NodeFronts)
@@ -260,7 +262,8 @@ impl Links {
         let links = self.wiring.links_beyond(node, port);
         let there = &self.fronts[usize::from(links.beyond)];
         if there.flits.more.contains(links.entered) {
-            return self.lists[usize::from(links.out)].flit(i);
+            let link = &self.lists[usize::from(links.out)];
+            return link.flits[i];
         }
         there.flits.front[usize::from(links.entered)]
     }
