@@ -68,7 +68,7 @@ invariant_of-self-2 c =
     c.index_mut.result.now c.index_mut.ensures.value (by (goal.at.invariant_of-self-2 c).After-contains) c.from.result _
     (number (goal.at.invariant_of-self-2 c).After-from) c.link.view_is c.index_mut-link.ensures.value _ refl
     (ap (λ (n : ℕ). min (deque_capacity c.link.inside.flits) n) c.push_listed.ensures.room) c.push_listed.new.self
-    c.args.vc some c.push_listed.ensures.list (c.push_listed.ensures.filed _ some)).filed
+    some (c.push_listed.ensures.filed _ some) c.args.vc c.push_listed.ensures.list).filed
 
 pub returns : goal.returns
 returns c =
@@ -77,4 +77,4 @@ returns c =
     c.index_mut.result.now c.index_mut.ensures.value (by (goal.at.returns c).After-contains) c.from.result _
     (number (goal.at.returns c).After-from) c.link.view_is c.index_mut-link.ensures.value _ refl
     (ap (λ (n : ℕ). min (deque_capacity c.link.inside.flits) n) c.push_listed.ensures.room) c.push_listed.new.self
-    c.args.vc some c.push_listed.ensures.list (c.push_listed.ensures.filed _ some)).seen
+    some (c.push_listed.ensures.filed _ some) c.args.vc c.push_listed.ensures.list).seen
