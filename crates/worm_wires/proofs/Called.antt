@@ -1,18 +1,20 @@
 -- A node's inbox, as a call reads it, and the links of a port that has a neighbour.
-use Rattle.std.proofs.Common.{◌≡◌, ℕ, ◌<◌, List, length, get_or, Option, Some, None, refl, arith, ap, sym, subst, ◌∙◌}
-use Rattle.std.specs.Prelude.{IsSome, option_map}
+use Rattle.std.proofs.Common.{◌≡◌, ℕ, ◌<◌, List, length, get_or, Some, arith, ap, sym, subst, ◌∙◌}
+use Rattle.std.specs.Prelude.{IsSome}
 use Rattle.std.proofs.lemmas.List.{get_or_default}
-use Rattle.worm_mesh.specs.Address.{AreRadices, neighbour_of, opposite_of}
-use Rattle.worm_mesh.specs.Links.{links_before}
-use Rattle.worm_wires.specs.Arrivals.{AreFronts, LinksView, credits_to, flits_to, number_into, number_out}
-use Rattle.worm_wires.specs.Inbox.{AreInboxes, Inbox, inbox_at, links_by, no_inbox}
+use Rattle.worm_mesh.specs.Address.{neighbour_of}
+use Rattle.worm_wires.specs.Arrivals.{AreFronts, LinksView, number_into, number_out, on_link}
+use Rattle.worm_wires.specs.Inbox.{AreInboxes, Inbox, Kind, inbox_at, links_by, no_inbox}
 use Rattle.worm_wires.specs.Links.{LinkView, blank_link}
-use Rattle.worm_wires.specs.Wiring.{in_link, into_from, out_link, port_links}
-use Rattle.worm_wires.specs.declared.wiring.PortLinks.{PortLinks}
-use Rattle.worm_wires.proofs.Apart.{back_of, into_beyond}
-use Rattle.worm_wires.proofs.EachKind.{credits_kind, flits_kind}
+use Rattle.worm_wires.specs.Wiring.{in_link, out_link}
+use Rattle.worm_wires.proofs.Apart.{into_is, out_is}
+use Rattle.worm_wires.proofs.EachKind.{IsKind}
 use Rattle.worm_wires.proofs.TraysSeen.{set_seen}
-use Rattle.worm_wires.proofs.Wired.{numbers_there, parts}
+
+-- the links with what is on them, as they are seen
+pub record AreSeen (mesh : List ℕ) (lists : List LinkView) (inboxes : List Inbox) (now : LinksView) : Type 0 where
+  pub sound : AreInboxes mesh lists inboxes
+  pub seen : record { mesh = mesh; states = links_by mesh lists inboxes } ≡ now
 
 -- the links as a call has them, and a node's inbox, which is read at some place
 pub record IsCall (mesh : List ℕ) (lists : List LinkView) (inboxes : List Inbox) (now : LinksView) (x i : ℕ)
@@ -30,19 +32,15 @@ module _ {mesh : List ℕ} {lists : List LinkView} {inboxes : List Inbox} {now :
       sym (call.reads ∙ get_or_default inboxes i read no_inbox (omega (arith, call.sound.nodes, call.at, call.node))
       ∙ ap (λ (v : ℕ). inbox_at inboxes v) call.at)
 
-  -- the sets of an inbox are those of the ports by which something comes in
-
-  pub flits_read : AreFronts (flits_to now x) read.flits.here
-  flits_read =
-      subst (λ (l : LinksView). AreFronts (flits_to l x) read.flits.here) call.seen
-      (subst (λ (b : Inbox). AreFronts (flits_to (record { mesh = mesh; states = links_by mesh lists inboxes }) x)
-      b.flits.here) inbox_is (set_seen flits_kind mesh lists inboxes call.sound x call.node))
-
-  pub credits_read : AreFronts (credits_to now x) read.credits.here
-  credits_read =
-      subst (λ (l : LinksView). AreFronts (credits_to l x) read.credits.here) call.seen
-      (subst (λ (b : Inbox). AreFronts (credits_to (record { mesh = mesh; states = links_by mesh lists inboxes }) x)
-      b.credits.here) inbox_is (set_seen credits_kind mesh lists inboxes call.sound x call.node))
+  -- the set of a tray is that of the ports by which one comes in
+  pub come_read : {A B : Type 0} {kind : Kind A} {other : Kind B} {put : LinkView → List A → LinkView}
+      → IsKind kind other put → AreFronts (λ p. on_link kind.list now.states (kind.link now.mesh x p))
+      (kind.tray read).here
+  come_read {kind = kind} is =
+      subst (λ (l : LinksView). AreFronts (λ p. on_link kind.list l.states (kind.link l.mesh x p)) (kind.tray read).here)
+      call.seen
+      (subst (λ (b : Inbox). AreFronts (λ p. on_link kind.list (links_by mesh lists inboxes) (kind.link mesh x p))
+      (kind.tray b).here) inbox_is (set_seen is mesh lists inboxes call.sound x call.node))
 
 -- a list, as it is read
 pub list_is : (lists : List LinkView) (k j : ℕ) (list : LinkView) → k < length lists → j ≡ k → list
@@ -51,76 +49,17 @@ pub list_is : (lists : List LinkView) (k j : ℕ) (list : LinkView) → k < leng
 list_is lists k j list there same reads =
     reads ∙ (λ t. get_or lists (same t) list) ∙ get_or_default lists k list blank_link there
 
--- The call's port, by its links
-
--- what a call is told of the links of a port
-pub record AreNumbers (mesh : List ℕ) (now : LinksView) (x p : ℕ) (links : PortLinks) : Type 0 where
-  -- by what is seen
-  pub out_now : number_out now x p ≡ links.out
-  pub into_now : number_into now x p ≡ links.into
-  -- of the port beyond
-  pub in_beyond : in_link mesh links.beyond links.entered ≡ Some links.out
-  pub out_beyond : out_link mesh links.beyond links.entered ≡ Some links.into
-
-pub numbers_by : (mesh : List ℕ) (states : List LinkView) (now : LinksView) (x p : ℕ) (links : PortLinks)
-    → AreRadices mesh → record { mesh = mesh; states = states } ≡ now
-    → ◌≡◌ {A = Option PortLinks} (Some links) (port_links mesh x p) → AreNumbers mesh now x p links
-numbers_by mesh states now x p links radices same linked =
-    let these = parts mesh x p links linked in
-    let numbers = numbers_there mesh x p links linked in
-    let entered : links.entered ≡ opposite_of p = ap (λ (l : PortLinks). l.entered) these.1 in
-    let out : links.out ≡ links_before mesh x p = ap (λ (l : PortLinks). l.out) these.1 in
-    let into : links.into ≡ links_before mesh links.beyond (opposite_of p) = ap (λ (l : PortLinks). l.into) these.1 in
-    record {
-      out_now = ap (λ (l : LinksView). number_out l x p) (sym same) ∙ sym numbers.0;
-      into_now = ap (λ (l : LinksView). number_into l x p) (sym same) ∙ sym numbers.1;
-      in_beyond =
-          ap (λ (q : ℕ). in_link mesh links.beyond q) entered ∙ into_beyond mesh x p links.beyond radices these.0
-          ∙ ap (λ (k : ℕ). Some k) (sym out);
-      out_beyond =
-          ap (λ (q : ℕ). out_link mesh links.beyond q) entered
-          ∙ ap (λ (n : Option ℕ). option_map (λ y. links_before mesh links.beyond (opposite_of p)) n)
-          (back_of mesh x p links.beyond radices these.0)
-          ∙ ap (λ (k : ℕ). Some k) (sym into);
-    }
-
 -- a port that has a neighbour, and the numbers of its links
 
 pub record IsLinked (mesh : List ℕ) (now : LinksView) (x p : ℕ) : Type 0 where
   pub into : in_link mesh x p ≡ Some (number_into now x p)
   pub out : out_link mesh x p ≡ Some (number_out now x p)
 
-linked_by : (mesh : List ℕ) (states : List LinkView) (now : LinksView) (x p : ℕ)
-    → record { mesh = mesh; states = states } ≡ now → (n : Option ℕ) → neighbour_of mesh x p ≡ n → IsSome n
-    → IsLinked mesh now x p
-linked_by mesh states now x p same None e some = absurd (cc)
-linked_by mesh states now x p same (Some y) e some = record {
-  into = ap (λ (n : Option ℕ). option_map (λ y. links_before mesh y (opposite_of p)) n) e
-      ∙ ap (λ (k : ℕ). Some k)
-      (sym (ap (λ (l : LinksView). number_into l x p) (sym same) ∙ ap (λ (n : Option ℕ). into_from mesh p n) e));
-  out = ap (λ (n : Option ℕ). option_map (λ y. links_before mesh x p) n) e
-      ∙ ap (λ (k : ℕ). Some k) (ap (λ (l : LinksView). number_out l x p) same);
-}
-
 pub linked_of : (mesh : List ℕ) (states : List LinkView) (now : LinksView) (x p : ℕ)
     → record { mesh = mesh; states = states } ≡ now → IsSome (neighbour_of now.mesh x p) → IsLinked mesh now x p
 linked_of mesh states now x p same some =
-    linked_by mesh states now x p same (neighbour_of mesh x p) refl
-    (subst (λ (l : LinksView). IsSome (neighbour_of l.mesh x p)) (sym same) some)
-
--- and the port that is entered beyond it
-pub record IsBeyond (mesh : List ℕ) (now : LinksView) (x p y q : ℕ) : Type 0 where
-  pub into : in_link mesh y q ≡ Some (number_out now x p)
-  pub out : out_link mesh y q ≡ Some (number_into now x p)
-
-pub beyond_of : (mesh : List ℕ) (states : List LinkView) (now : LinksView) (x p y q : ℕ) → AreRadices mesh
-    → record { mesh = mesh; states = states } ≡ now → Some y ≡ neighbour_of mesh x p → q ≡ opposite_of p
-    → IsBeyond mesh now x p y q
-beyond_of mesh states now x p y q radices same e entered = record {
-  into = ap (λ (o : ℕ). in_link mesh y o) entered ∙ into_beyond mesh x p y radices (sym e)
-      ∙ ap (λ (l : LinksView). Some (number_out l x p)) same;
-  out = ap (λ (o : ℕ). out_link mesh y o) entered
-      ∙ ap (λ (n : Option ℕ). option_map (λ z. links_before mesh y (opposite_of p)) n)
-      (back_of mesh x p y radices (sym e))
-      ∙ ap (λ (n : Option ℕ). Some (into_from mesh p n)) e ∙ ap (λ (l : LinksView). Some (number_into l x p)) same;
-}
+    let there = subst (λ (l : LinksView). IsSome (neighbour_of l.mesh x p)) (sym same) some in
+    record {
+      into = into_is mesh p (neighbour_of mesh x p) there ∙ ap (λ (l : LinksView). Some (number_into l x p)) same;
+      out = out_is mesh x p (neighbour_of mesh x p) there ∙ ap (λ (l : LinksView). Some (number_out l x p)) same;
+    }

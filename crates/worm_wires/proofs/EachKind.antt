@@ -10,10 +10,13 @@ use Rattle.worm_mesh.proofs.Digits.{AreLarge-from_radices}
 use Rattle.worm_mesh.proofs.Neighbours.{Joins-back, Joins-from, opposite_twice}
 use Rattle.worm_mesh.proofs.Numbers.{below_count}
 use Rattle.worm_wires.specs.Inbox.{AreInboxes, Inbox, IsTray, Kind, come, flits_beyond, inbox_at, link_by, links_by}
-use Rattle.worm_wires.specs.Inbox.{of_credits, of_flits, whole}
+use Rattle.worm_wires.specs.Inbox.{inbox_by, of_credits, of_flits, tray_of, whole}
 use Rattle.worm_wires.specs.Links.{LinkView, blank_link}
-use Rattle.worm_wires.specs.Wiring.{in_link, out_link}
-use Rattle.worm_wires.proofs.Apart.{back_of, in_once, into_beyond, out_once}
+use Rattle.worm_wires.specs.Wiring.{in_link, into_from, out_link}
+use Rattle.worm_wires.specs.declared.inbox.Arrivals.{Arrivals}
+use Rattle.worm_wires.specs.declared.inbox.Fronts.{Fronts}
+use Rattle.worm_wires.specs.declared.inbox.NodeFronts.{NodeFronts}
+use Rattle.worm_wires.proofs.Apart.{back_of, in_once, into_beyond, into_is, out_is, out_once}
 use Rattle.worm_wires.proofs.ListsWritten.{all_written, entered_in, is_seen, linked_at, rooms_same, same_link}
 use Rattle.worm_wires.proofs.Seen.{credits_at, flits_past, room_at}
 use Rattle.worm_wires.proofs.TraysWritten.{IsLinks, IsWrite, there, come_here, come_other, come_same, tray_kept}
@@ -44,6 +47,19 @@ pub record IsKind {A B : Type 0} (kind : Kind A) (other : Kind B) (put : LinkVie
       → (x p k : ℕ) (box : Inbox) (link : LinkView) (here more : Bool) (front : Option A)
       → IsWrite kind other mesh links inboxes x p k box link here more front
       → IsWritten kind put mesh links inboxes p k (set inboxes x box) box link here
+  -- the link of a port that has a neighbour, and of the port that is entered beyond it
+  pub numbered : (mesh : List ℕ) (x p : ℕ) → IsSome (neighbour_of mesh x p)
+      → kind.link mesh x p ≡ Some (kind.number mesh x p)
+  pub beyond : (mesh : List ℕ) (x p y : ℕ) → AreRadices mesh → neighbour_of mesh x p ≡ Some y
+      → kind.link mesh y (opposite_of p) ≡ Some (other.number mesh x p)
+  -- a tray as it stands in two places, read and written
+  pub read_tray : (a : Arrivals) (f : NodeFronts) → kind.tray (inbox_by a f) ≡ tray_of (kind.here a) (kind.fronts f)
+  pub put_tray : (a : Arrivals) (f : NodeFronts) (here : ℕ) (fronts : Fronts A)
+      → kind.tray (inbox_by (kind.with_here a here) (kind.with_fronts f fronts)) ≡ tray_of here fronts
+  pub put_other : (a : Arrivals) (f : NodeFronts) (here : ℕ) (fronts : Fronts A)
+      → other.tray (inbox_by (kind.with_here a here) (kind.with_fronts f fronts)) ≡ other.tray (inbox_by a f)
+  pub here_kept : (a : Arrivals) → kind.with_here a (kind.here a) ≡ a
+  pub fronts_kept : (f : NodeFronts) → kind.with_fronts f (kind.fronts f) ≡ f
 
 -- The link of a port by its neighbour
 
@@ -204,6 +220,13 @@ flits_kind = record {
   seen = flits_seen;
   room_seen = in_room;
   written = flits_written;
+  numbered = λ mesh x p some. into_is mesh p (neighbour_of mesh x p) some;
+  beyond = into_beyond;
+  read_tray = λ a f. refl;
+  put_tray = λ a f here fronts. refl;
+  put_other = λ a f here fronts. refl;
+  here_kept = λ a. refl;
+  fronts_kept = λ f. refl;
 }
 
 -- Credits
@@ -286,4 +309,13 @@ credits_kind = record {
   seen = credits_seen;
   room_seen = out_room;
   written = credits_written;
+  numbered = λ mesh x p some. out_is mesh x p (neighbour_of mesh x p) some;
+  beyond = λ mesh x p y radices e.
+      ap (λ (n : Option ℕ). option_map (λ z. links_before mesh y (opposite_of p)) n) (back_of mesh x p y radices e)
+      ∙ ap (λ (n : Option ℕ). Some (into_from mesh p n)) (sym e);
+  read_tray = λ a f. refl;
+  put_tray = λ a f here fronts. refl;
+  put_other = λ a f here fronts. refl;
+  here_kept = λ a. refl;
+  fronts_kept = λ f. refl;
 }

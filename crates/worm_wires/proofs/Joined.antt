@@ -1,18 +1,15 @@
 -- The inboxes, as a call reads and writes them in the two places where they stand.
-use Rattle.std.proofs.Common.{◌≡◌, ℕ, suc, zero, ◌<◌, false, List, [], ◌∷◌, length, length-set, get_or, set, None}
+use Rattle.std.proofs.Common.{◌≡◌, ℕ, suc, zero, ◌<◌, List, [], ◌∷◌, length, get_or, set}
 use Rattle.std.proofs.Common.{refl, arith, ap, sym, subst, ◌∙◌}
 use Rattle.std.specs.Simd.Lanes.{zip2}
 use Rattle.std.proofs.lemmas.List.{get_or_default, set-get_or}
 use Rattle.std.proofs.lemmas.Simd.{get_or-zip2, length-zip2}
-use Rattle.worm_flit.specs.SmallSet.{has, IsPut}
 use Rattle.worm_wires.specs.Arrivals.{LinksView}
-use Rattle.worm_wires.specs.Inbox.{AreFiled, AreInboxes, AreSeenAlike, Inbox, IsFiled, inbox_by, inboxes_by, links_by}
-use Rattle.worm_wires.specs.Inbox.{tray_of}
+use Rattle.worm_wires.specs.Inbox.{AreFiled, Inbox, inbox_by, inboxes_by, links_by}
 use Rattle.worm_wires.specs.Links.{LinkView}
 use Rattle.worm_wires.specs.declared.inbox.Arrivals.{Arrivals}
-use Rattle.worm_wires.specs.declared.inbox.Fronts.{Fronts}
 use Rattle.worm_wires.specs.declared.inbox.NodeFronts.{NodeFronts}
-use Rattle.worm_wires.proofs.Called.{IsCall}
+use Rattle.worm_wires.proofs.Called.{AreSeen, IsCall}
 
 zip2_below : {X Y Z : Type 0} (f : X → Y → Z) (xs : List X) (ys : List Y) (i : ℕ) → i < length (zip2 f xs ys)
     → i < length xs
@@ -86,70 +83,30 @@ module _ {mesh : List ℕ} {lists : List LinkView} {arrivals : List Arrivals} {f
       call_of now x d (get_or fronts i no_fronts) seen x_in at
       (get_or_default fronts i no_fronts (get_or fronts i no_fronts) (omega (arith, filed.all, at, x_in)))
 
-  -- and what stands there after a write, at one node of both
+  -- and what stands there after a write, at one node of both, or of the ports alone, or of the fronts alone
 
-  module _ (a : Arrivals) (f : NodeFronts) (now : List LinkView) where
-    pub filed_by : AreInboxes mesh now (set (inboxes_by arrivals fronts) i (inbox_by a f))
-        → AreFiled mesh now (set arrivals i a) (set fronts i f)
-    filed_by sound = record {
-      all = rw length-set filed.all;
-      inboxes = subst (λ (b : List Inbox). AreInboxes mesh now b) (sym (joined_set arrivals fronts i a f)) sound;
-    }
+  pub sets_set : (a : Arrivals) (f : NodeFronts) → f ≡ get_or fronts i f
+      → inboxes_by (set arrivals i a) fronts ≡ set (inboxes_by arrivals fronts) i (inbox_by a f)
+  sets_set a f reads =
+      ap (λ (l : List NodeFronts). inboxes_by (set arrivals i a) l)
+      (sym ((λ t. set fronts i (reads t)) ∙ set-get_or fronts i f))
+      ∙ joined_set arrivals fronts i a f
 
-    pub seen_by : (view : LinksView)
-        → record { mesh = mesh; states = links_by mesh now (set (inboxes_by arrivals fronts) i (inbox_by a f)) } ≡ view
-        → record { mesh = mesh; states = links_by mesh now (inboxes_by (set arrivals i a) (set fronts i f)) } ≡ view
-    seen_by view seen =
-        (λ t. record { mesh = mesh; states = links_by mesh now (joined_set arrivals fronts i a f t) }) ∙ seen
-
-  -- or of the ports alone
-
-  module _ (a : Arrivals) (f : NodeFronts) (reads : f ≡ get_or fronts i f) where
-    sets_set : inboxes_by (set arrivals i a) fronts ≡ set (inboxes_by arrivals fronts) i (inbox_by a f)
-    sets_set =
-        ap (λ (l : List NodeFronts). inboxes_by (set arrivals i a) l)
-        (sym ((λ t. set fronts i (reads t)) ∙ set-get_or fronts i f))
-        ∙ joined_set arrivals fronts i a f
-
-    pub sets_filed_by : AreInboxes mesh lists (set (inboxes_by arrivals fronts) i (inbox_by a f))
-        → AreFiled mesh lists (set arrivals i a) fronts
-    sets_filed_by sound = record {
-      all = filed.all;
-      inboxes = subst (λ (b : List Inbox). AreInboxes mesh lists b) (sym sets_set) sound;
-    }
-
-    pub sets_seen_by : (view : LinksView)
-        → record { mesh = mesh; states = links_by mesh lists (set (inboxes_by arrivals fronts) i (inbox_by a f)) }
-        ≡ view
-        → record { mesh = mesh; states = links_by mesh lists (inboxes_by (set arrivals i a) fronts) } ≡ view
-    sets_seen_by view seen = (λ t. record { mesh = mesh; states = links_by mesh lists (sets_set t) }) ∙ seen
-
-  -- or of the fronts alone
   pub fronts_set : (d : Arrivals) (f : NodeFronts) → inboxes_by arrivals (set fronts i f)
       ≡ set (inboxes_by arrivals fronts) i (inbox_by (get_or arrivals i d) f)
   fronts_set d f =
       ap (λ (l : List Arrivals). inboxes_by l (set fronts i f)) (sym (set-get_or arrivals i d))
       ∙ joined_set arrivals fronts i (get_or arrivals i d) f
 
-  pub alike_by : (d : Arrivals) (f : NodeFronts) (now : List LinkView)
-      → AreInboxes mesh now (set (inboxes_by arrivals fronts) i (inbox_by (get_or arrivals i d) f))
-      × (links_by mesh now (set (inboxes_by arrivals fronts) i (inbox_by (get_or arrivals i d) f))
-      ≡ links_by mesh lists (inboxes_by arrivals fronts))
-      → AreSeenAlike mesh arrivals lists fronts now (set fronts i f)
-  alike_by d f now alike = record {
-    sound = record {
-      all = rw length-set filed.all;
-      inboxes = subst (λ (b : List Inbox). AreInboxes mesh now b) (sym (fronts_set d f)) alike.0;
-    };
-    same = ap (λ (b : List Inbox). links_by mesh now b) (fronts_set d f) ∙ alike.1;
-  }
+-- the links with what is on them, as they are seen, where the inboxes stand in two places
+pub record AreLinks (mesh : List ℕ) (lists : List LinkView) (arrivals : List Arrivals) (fronts : List NodeFronts)
+    (now : LinksView) : Type 0 where
+  pub filed : AreFiled mesh lists arrivals fronts
+  pub seen : record { mesh = mesh; states = links_by mesh lists (inboxes_by arrivals fronts) } ≡ now
 
--- the one that came in by a port, alone, is taken
-pub taken : {A : Type 0} (here now : ℕ) (fronts : Fronts A) (p : ℕ) → IsPut here now p false
-    → has fronts.more p ≡ false → IsFiled (tray_of here fronts) (tray_of now fronts) p false false None
-taken here now fronts p put alone = record {
-  comes = put;
-  listed = record { here = alone; elsewhere = λ k k_in away. refl };
-  first = λ some. absurd (cc);
-  others = λ q away. refl;
-}
+pub links_are : {mesh : List ℕ} {lists : List LinkView} {arrivals : List Arrivals} {fronts : List NodeFronts}
+    {inboxes : List Inbox} {now : LinksView} → length fronts ≡ 256 → inboxes_by arrivals fronts ≡ inboxes
+    → AreSeen mesh lists inboxes now → AreLinks mesh lists arrivals fronts now
+links_are {mesh} {lists} {now = now} all same seen =
+    let are = subst (λ (b : List Inbox). AreSeen mesh lists b now) (sym same) seen in
+    record { filed = record { all = all; inboxes = are.sound }; seen = are.seen }

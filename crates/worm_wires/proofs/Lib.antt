@@ -12,7 +12,7 @@ pub mod TraysSeen
 pub mod Called
 pub mod Joined
 pub mod TrayCalled
-pub mod TrayMoved
 pub mod InboxFilled
 pub mod AllSpilled
 pub mod Spilled
+pub mod Moved

@@ -12,47 +12,50 @@ use Rattle.worm_wires.specs.Inbox.{no_inbox, of_credits, of_flits}
 use Rattle.worm_wires.proofs.Apart.{number_cases}
 use Rattle.worm_wires.proofs.Called.{IsCall, inbox_is}
 use Rattle.worm_wires.proofs.EachKind.{IsKind}
+use Rattle.worm_wires.proofs.TrayCalled.{tray_is}
 use Rattle.worm_wires.proofs.Ways.{not_here}
 
--- a port, after a write of its inbox
-pub port_put : {A B : Type 0} (kind : Kind A) (other : Kind B) {mesh : List ℕ} {lists : List LinkView}
-    {inboxes : List Inbox} {now : LinksView} {x i : ℕ} {read : Inbox} → IsCall mesh lists inboxes now x i read
-    → (p : ℕ) (box : Inbox) (front : Option A) → IsFiled (kind.tray read) (kind.tray box) p true true front
-    → other.tray box ≡ other.tray read → IsPortSpilled kind other inboxes (set inboxes i box) x p
-port_put kind other {mesh} {lists} {inboxes} {now} {x} {i} {read} call p box front filed kept =
-    let this : inbox_at (set inboxes x box) x ≡ box =
-    get_or-set_same inboxes x box no_inbox (omega (arith, call.sound.nodes, call.node)) in
-    subst (λ (v : ℕ). IsPortSpilled kind other inboxes (set inboxes v box) x p) (sym call.at)
-    record {
-      here = ap (λ (b : Inbox). has (kind.tray b).here p) this ∙ filed.comes.here ∙ sym filed.listed.here
-          ∙ sym (ap (λ (b : Inbox). has (kind.tray b).more p) this);
-      comes = λ q q_in away. ap (λ (b : Inbox). has (kind.tray b).here q) this ∙ filed.comes.elsewhere q q_in away
-          ∙ ap (λ (b : Inbox). has (kind.tray b).here q) (sym (inbox_is call));
-      listed = λ q q_in away. ap (λ (b : Inbox). has (kind.tray b).more q) this ∙ filed.listed.elsewhere q q_in away
-          ∙ ap (λ (b : Inbox). has (kind.tray b).more q) (sym (inbox_is call));
-      kept = ap (λ (b : Inbox). other.tray b) this ∙ kept ∙ ap (λ (b : Inbox). other.tray b) (sym (inbox_is call));
-      others = λ y away. get_or-set_other inboxes x y box no_inbox away;
-    }
+module _ {A B : Type 0} {kind : Kind A} {other : Kind B} {put : LinkView → List A → LinkView}
+    (is : IsKind kind other put) {mesh : List ℕ} {lists : List LinkView} {inboxes : List Inbox} {now : LinksView}
+    {x i : ℕ} {read : Inbox} (call : IsCall mesh lists inboxes now x i read) {tray : Tray A}
+    (tray_read : kind.tray read ≡ tray) (p : ℕ) where
+  -- a port, after a write of its inbox
+  pub port_put : (box : Inbox) {tray_now : Tray A} → kind.tray box ≡ tray_now → (front : Option A)
+      → IsFiled tray tray_now p true true front → other.tray box ≡ other.tray read
+      → IsPortSpilled kind other inboxes (set inboxes i box) x p
+  port_put box box_is front filed kept =
+      let this : inbox_at (set inboxes x box) x ≡ box =
+      get_or-set_same inboxes x box no_inbox (omega (arith, call.sound.nodes, call.node)) in
+      let new = ap (λ (b : Inbox). kind.tray b) this ∙ box_is in
+      let old = tray_is is call tray_read in
+      subst (λ (v : ℕ). IsPortSpilled kind other inboxes (set inboxes v box) x p) (sym call.at)
+      record {
+        here = ap (λ (t : Tray A). has t.here p) new ∙ filed.comes.here ∙ sym filed.listed.here
+            ∙ sym (ap (λ (t : Tray A). has t.more p) new);
+        comes = λ q q_in away. ap (λ (t : Tray A). has t.here q) new ∙ filed.comes.elsewhere q q_in away
+            ∙ ap (λ (t : Tray A). has t.here q) (sym old);
+        listed = λ q q_in away. ap (λ (t : Tray A). has t.more q) new ∙ filed.listed.elsewhere q q_in away
+            ∙ ap (λ (t : Tray A). has t.more q) (sym old);
+        kept = ap (λ (b : Inbox). other.tray b) this ∙ kept ∙ ap (λ (b : Inbox). other.tray b) (sym (inbox_is call));
+        others = λ y away. get_or-set_other inboxes x y box no_inbox away;
+      }
 
--- a port by which none comes in
-pub port_stays : {A B : Type 0} {kind : Kind A} {other : Kind B} {put : LinkView → List A → LinkView}
-    → IsKind kind other put → {mesh : List ℕ} {lists : List LinkView} {inboxes : List Inbox} {now : LinksView}
-    {x i : ℕ} {read : Inbox} → IsCall mesh lists inboxes now x i read → (p : ℕ) → p < 8
-    → has (kind.tray read).here p ≡ false → IsPortSpilled kind other inboxes (set inboxes i read) x p
-port_stays {kind = kind} {other = other} is {mesh} {lists} {inboxes} {now} {x} {i} {read} call p p_in none =
-    let tray = kind.tray (inbox_at inboxes x) in
-    let way = is.links.known mesh lists x (inbox_at inboxes x) (call.sound.known x call.node) p p_in in
-    let no_here : has tray.here p ≡ false = ap (λ (b : Inbox). has (kind.tray b).here p) (inbox_is call) ∙ none in
-    let empty = not_here (has tray.here p) (has tray.more p) (slice_get tray.front p) _ _ way no_here in
-    subst (λ (boxes : List Inbox). IsPortSpilled kind other inboxes boxes x p)
-    (sym ((λ t. set inboxes i (call.reads t)) ∙ set-get_or inboxes i read))
-    record {
-      here = no_here ∙ sym (way.listed ∙ ap (λ (l : List _). has_front l) empty);
-      comes = λ q q_in away. refl;
-      listed = λ q q_in away. refl;
-      kept = refl;
-      others = λ y away. refl;
-    }
+  -- a port by which none comes in
+  pub port_stays : p < 8 → has tray.here p ≡ false → IsPortSpilled kind other inboxes (set inboxes i read) x p
+  port_stays p_in none =
+      let old = kind.tray (inbox_at inboxes x) in
+      let way = is.links.known mesh lists x (inbox_at inboxes x) (call.sound.known x call.node) p p_in in
+      let no_here : has old.here p ≡ false = ap (λ (t : Tray A). has t.here p) (tray_is is call tray_read) ∙ none in
+      let empty = not_here (has old.here p) (has old.more p) (slice_get old.front p) _ _ way no_here in
+      subst (λ (boxes : List Inbox). IsPortSpilled kind other inboxes boxes x p)
+      (sym ((λ t. set inboxes i (call.reads t)) ∙ set-get_or inboxes i read))
+      record {
+        here = no_here ∙ sym (way.listed ∙ ap (λ (l : List A). has_front l) empty);
+        comes = λ q q_in away. refl;
+        listed = λ q q_in away. refl;
+        kept = refl;
+        others = λ y away. refl;
+      }
 
 -- one port more of a node, of one kind
 port_more : {A B : Type 0} (kind : Kind A) (other : Kind B) (old new : List Inbox) (x p : ℕ) → p < 6

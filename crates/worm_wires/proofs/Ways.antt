@@ -6,7 +6,7 @@ use Rattle.std.specs.Prelude.{slice_get, IsSome}
 use Rattle.worm_wires.specs.Arrivals.{has_front}
 use Rattle.worm_wires.specs.Inbox.{IsWay, whole}
 
-no_front : {A : Type 0} (xs : List A) → has_front xs ≡ false → xs ≡ []
+pub no_front : {A : Type 0} (xs : List A) → has_front xs ≡ false → xs ≡ []
 no_front [] none = refl
 no_front (x ∷ xs) none = absurd (cc)
 
@@ -53,12 +53,6 @@ pub unlinked : {A : Type 0} (here more : Bool) (front : Option A) → IsWay here
     → whole here front [] ≡ []
 unlinked true more front way = absurd (omega (arith, (way.alone refl refl).0))
 unlinked false more front way = refl
-
--- what is in the inbox alone finds room in the list
-pub has_room : {A : Type 0} (here more : Bool) (front : Option A) (list : List A) (room : ℕ)
-    → IsWay here more front list room → here ≡ true → more ≡ false → length list < room
-has_room here more front list room way some none =
-    let empty = not_listed here more front list room way none in rw empty (way.alone empty some).0
 
 -- the same of what is the same
 pub way_same : {A : Type 0} (here here_now more more_now : Bool) (front front_now : Option A) (list now : List A)

@@ -9,7 +9,7 @@ use Rattle.worm_mesh.specs.Address.{AreRadices, has_neighbour, neighbour_of, nod
 use Rattle.worm_mesh.specs.Links.{link_count, links_before}
 use Rattle.worm_wires.specs.Arrivals.{has_front, on_link}
 use Rattle.worm_wires.specs.Links.{LinkView, blank_link}
-use Rattle.worm_wires.specs.Wiring.{in_link, out_link}
+use Rattle.worm_wires.specs.Wiring.{in_link, into_from, out_link}
 use Rattle.worm_wires.specs.declared.inbox.Arrivals.{Arrivals}
 use Rattle.worm_wires.specs.declared.inbox.Fronts.{Fronts}
 use Rattle.worm_wires.specs.declared.inbox.NodeFronts.{NodeFronts}
@@ -77,13 +77,37 @@ pub record IsFiled {A : Type 0} (old new : Tray A) (p : ℕ) (here more : Bool) 
 pub record Kind (A : Type 0) : Type 0 where
   pub list : LinkView → List A
   pub link : List ℕ → ℕ → ℕ → Option ℕ
+  pub number : List ℕ → ℕ → ℕ → ℕ
   pub tray : Inbox → Tray A
+  -- the parts of a tray, and what has another in its place
+  pub here : Arrivals → ℕ
+  pub with_here : Arrivals → ℕ → Arrivals
+  pub fronts : NodeFronts → Fronts A
+  pub with_fronts : NodeFronts → Fronts A → NodeFronts
 
 abbrev pub of_flits : Kind Flit
-of_flits = record { list = λ l. l.flits; link = in_link; tray = λ b. b.flits }
+of_flits = record {
+  list = λ l. l.flits;
+  link = in_link;
+  number = λ mesh x p. into_from mesh p (neighbour_of mesh x p);
+  tray = λ b. b.flits;
+  here = λ a. a.flits;
+  with_here = λ a here. record a { flits = here };
+  fronts = λ f. f.flits;
+  with_fronts = λ f fronts. record f { flits = fronts };
+}
 
 abbrev pub of_credits : Kind ℕ
-of_credits = record { list = λ l. l.credits; link = out_link; tray = λ b. b.credits }
+of_credits = record {
+  list = λ l. l.credits;
+  link = out_link;
+  number = links_before;
+  tray = λ b. b.credits;
+  here = λ a. a.credits;
+  with_here = λ a here. record a { credits = here };
+  fronts = λ f. f.credits;
+  with_fronts = λ f fronts. record f { credits = fronts };
+}
 
 -- a node's tray of a kind
 abbrev pub IsTray : {A : Type 0} → Kind A → List ℕ → List LinkView → ℕ → Tray A → Type 0

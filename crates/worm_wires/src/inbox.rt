@@ -1,11 +1,14 @@
 //! The inboxes of the nodes: at each mesh port the flit that comes in next, and the credit that comes back next.
 
-ghost use Rattle.std.specs.Prelude.{◌≡◌, ◌<◌, ℕ, is_some, option_copied, slice_get, true, Some, false};
+ghost use Rattle.std.specs.Prelude.{◌≡◌, ◌<◌, ◌∷◌, ◌++◌, [], ℕ, drop, is_some, length, option_copied, slice_get};
+ghost use Rattle.std.specs.Prelude.{true, Some, false};
+ghost use Rattle.std.specs.VecDeque.{deque_capacity};
 ghost use Rattle.worm_flit.specs.SmallSet.{has};
-ghost use Rattle.worm_wires.specs.Inbox.{IsFiled, IsWay, front_of, tray_of, whole};
+ghost use Rattle.worm_wires.specs.Arrivals.{has_front};
+ghost use Rattle.worm_wires.specs.Inbox.{IsFiled, front_of, tray_of, whole};
 
-use crate::LinkState;
 use std::alloc::{AllocError, Global};
+use std::collections::VecDeque;
 use std::marker::Model;
 use worm_flit::{Flit, Kind, Lane, SmallSet};
 
@@ -96,6 +99,50 @@ impl<T: Copy> Fronts<T> {
             self.front[usize::from(port)] = first;
         }
     }
+
+    /// Moves what comes in by the port into the list of its link, where it is in the inbox alone.
+    pub(crate) fn spill(&mut self, port: u8, list: &mut VecDeque<T>)
+        requires port { port < 6 }
+        requires listed { has self.old.more port ≡ has_front list.old.items }
+        requires room { list.old.items ≡ [] → 0 < deque_capacity list.old }
+        ensures list { list.new.items ≡ whole true (slice_get self.old.front port) list.old.items }
+        ensures room { deque_capacity list.new ≡ deque_capacity list.old }
+        ensures filed { (here : ℕ) → has here port ≡ true → IsFiled (tray_of here self.old) (tray_of here self.new)
+            port true true (slice_get self.old.front port) }
+    {
+        if self.more.contains(port) {
+            return;
+        }
+        list.push_back_reserved(self.front[usize::from(port)]);
+        self.more.put(port, true);
+    }
+
+    /// Puts one more behind what comes in by the port.
+    pub(crate) fn push_listed(&mut self, port: u8, list: &mut VecDeque<T>, item: T)
+        requires port { port < 6 }
+        requires listed { has self.old.more port ≡ has_front list.old.items }
+        requires room { length (whole true (slice_get self.old.front port) list.old.items)
+            < deque_capacity list.old }
+        ensures list { list.new.items ≡ whole true (slice_get self.old.front port) list.old.items ++ item ∷ [] }
+        ensures room { deque_capacity list.new ≡ deque_capacity list.old }
+        ensures filed { (here : ℕ) → has here port ≡ true → IsFiled (tray_of here self.old) (tray_of here self.new)
+            port true true (slice_get self.old.front port) }
+    {
+        self.spill(port, list);
+        list.push_back_reserved(item);
+    }
+
+    /// Drops the front of the list of the port's link, and files the next.
+    pub(crate) fn pop_listed(&mut self, here: &mut SmallSet, port: u8, list: &mut VecDeque<T>)
+        requires { port < 6 }
+        ensures list { list.new.items ≡ drop 1 list.old.items }
+        ensures room { deque_capacity list.new ≡ deque_capacity list.old }
+        ensures filed { IsFiled (tray_of here.old self.old) (tray_of here.new self.new) port
+            (has_front list.new.items) (has_front list.new.items) (slice_get list.new.items 0) }
+    {
+        let _dropped = list.pop_front();
+        self.file(here, port, list.front().copied());
+    }
 }
 
 /// What comes in next at the mesh ports of a node.
@@ -116,43 +163,6 @@ impl NodeFronts {
             flits: Fronts::new(NO_FLIT),
             credits: Fronts::new(0),
         }
-    }
-
-    /// Moves the flit that comes in by the port into the list of its link, where it is in the inbox alone.
-    pub(crate) fn spill_flits(&mut self, port: u8, link: &mut LinkState)
-        requires port { port < 6 }
-        requires way { IsWay true (has self.old.flits.more port) (slice_get self.old.flits.front port) link.old.flits
-            link.old.room }
-        ensures link { link.new ≡ record link.old {
-          flits = whole true (slice_get self.old.flits.front port) link.old.flits;
-        } }
-        ensures filed { (here : ℕ) → has here port ≡ true → IsFiled (tray_of here self.old.flits)
-            (tray_of here self.new.flits) port true true (slice_get self.old.flits.front port) }
-        ensures kept { self.new.credits ≡ self.old.credits }
-    {
-        if self.flits.more.contains(port) {
-            return;
-        }
-        link.push(self.flits.front[usize::from(port)]);
-        self.flits.more.put(port, true);
-    }
-
-    pub(crate) fn spill_credits(&mut self, port: u8, link: &mut LinkState)
-        requires port { port < 6 }
-        requires way { IsWay true (has self.old.credits.more port) (slice_get self.old.credits.front port)
-            link.old.credits link.old.room }
-        ensures link { link.new ≡ record link.old {
-          credits = whole true (slice_get self.old.credits.front port) link.old.credits;
-        } }
-        ensures filed { (here : ℕ) → has here port ≡ true → IsFiled (tray_of here self.old.credits)
-            (tray_of here self.new.credits) port true true (slice_get self.old.credits.front port) }
-        ensures kept { self.new.flits ≡ self.old.flits }
-    {
-        if self.credits.more.contains(port) {
-            return;
-        }
-        link.push_credit(self.credits.front[usize::from(port)]);
-        self.credits.more.put(port, true);
     }
 }
 

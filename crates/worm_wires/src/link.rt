@@ -1,8 +1,7 @@
 //! What is on a link.
 
 ghost use Rattle.worm_wires.specs.Links.{empty_link};
-ghost use Rattle.std.specs.Prelude.{◌≡◌, [], ◌∷◌, ◌++◌, ◌<◌, ◌≤◌, length, drop, min, slice_get, Some, IfOk};
-ghost use Rattle.std.specs.Prelude.{is_some, option_copied};
+ghost use Rattle.std.specs.Prelude.{◌≡◌, [], ◌∷◌, ◌++◌, ◌<◌, ◌≤◌, length, min, IfOk};
 
 use std::alloc::{AllocError, Global};
 use std::collections::VecDeque;
@@ -15,7 +14,7 @@ use worm_flit::Flit;
 /// ```text
 /// let mut link = LinkState::new(alloc, 2)?;
 /// link.push(flit);
-/// let front = link.front();
+/// let front = link.flits.front();
 /// ```
 #[derive(Drop)]
 pub struct LinkState {
@@ -56,34 +55,11 @@ impl LinkState {
         self.flits.capacity().min(self.credits.capacity())
     }
 
-    /// The front flit, if there is one.
-    pub fn front(&self) -> Option<&Flit>
-        ensures value { option_copied result ≡ slice_get self.now.flits 0 }
-        ensures variant { is_some result ≡ is_some (slice_get self.now.flits 0) }
-    {
-        self.flits.front()
-    }
-
     /// How many flits are on it.
     pub fn count(&self) -> usize
         ensures { result ≡ length self.now.flits }
     {
         self.flits.len()
-    }
-
-    /// The flit at place `i`, counted from the front.
-    pub fn flit(&self, i: usize) -> Flit
-        requires { i < length self.now.flits }
-        ensures { slice_get self.now.flits i ≡ Some result }
-    {
-        self.flits[i]
-    }
-
-    /// Drops the front flit, if there is one.
-    pub fn pop(&mut self)
-        ensures { self.new ≡ record self.old { flits = drop 1 self.old.flits } }
-    {
-        let _dropped = self.flits.pop_front();
     }
 
     /// Puts the flit at the end.
@@ -94,25 +70,11 @@ impl LinkState {
         self.flits.push_back_reserved(flit);
     }
 
-    /// The channel of the front credit, if there is one.
-    pub fn front_credit(&self) -> Option<u8>
-        ensures { result ≡ slice_get self.now.credits 0 }
-    {
-        self.credits.front().copied()
-    }
-
     /// How many credits are on their way back over it.
     pub fn credit_count(&self) -> usize
         ensures { result ≡ length self.now.credits }
     {
         self.credits.len()
-    }
-
-    /// Drops the front credit, if there is one.
-    pub fn pop_credit(&mut self)
-        ensures { self.new ≡ record self.old { credits = drop 1 self.old.credits } }
-    {
-        let _dropped = self.credits.pop_front();
     }
 
     /// Puts a credit of the channel at the end.

@@ -44,13 +44,15 @@ impl Model for Links {
 fn front_flit(lists: &[LinkState], number: Option<u16>) -> Option<Flit>
     ensures { result ≡ slice_get (flits_of lists.now number) 0 }
 {
-    lists.get(usize::from(number?))?.front().copied()
+    let link = lists.get(usize::from(number?))?;
+    link.flits.front().copied()
 }
 
 fn front_credit(lists: &[LinkState], number: Option<u16>) -> Option<u8>
     ensures { result ≡ slice_get (credits_of lists.now number) 0 }
 {
-    lists.get(usize::from(number?))?.front_credit()
+    let link = lists.get(usize::from(number?))?;
+    link.credits.front().copied()
 }
 
 fn inbox_of(wiring: &Wiring, lists: &[LinkState], node: u8) -> (Arrivals, NodeFronts)
@@ -88,7 +90,8 @@ fn spill_flits(
     let here = &mut fronts[at];
     if arrivals[at].flits.contains(port) {
         let links = wiring.links_beyond(node, port);
-        here.spill_flits(port, &mut lists[usize::from(links.into)]);
+        let link = &mut lists[usize::from(links.into)];
+        here.flits.spill(port, &mut link.flits);
     }
 }
 
@@ -111,7 +114,8 @@ fn spill_credits(
     let here = &mut fronts[at];
     if arrivals[at].credits.contains(port) {
         let links = wiring.links_beyond(node, port);
-        here.spill_credits(port, &mut lists[usize::from(links.out)]);
+        let link = &mut lists[usize::from(links.out)];
+        here.credits.spill(port, &mut link.credits);
     }
 }
 
@@ -258,7 +262,8 @@ impl Links {
         let links = self.wiring.links_beyond(node, port);
         let there = &self.fronts[usize::from(links.beyond)];
         if there.flits.more.contains(links.entered) {
-            return self.lists[usize::from(links.out)].flit(i);
+            let link = &self.lists[usize::from(links.out)];
+            return link.flits[i];
         }
         there.flits.front[usize::from(links.entered)]
     }
@@ -287,12 +292,11 @@ impl Links {
             { flits = drop 1 (state_at self.old (number_into self.old node port)).flits }) }
     {
         let number = self.wiring.links_beyond(node, port).into;
-        let list = &mut self.lists[usize::from(number)];
-        list.pop();
-        let front = list.front().copied();
         let at = usize::from(node);
         let here = &mut self.arrivals[at].flits;
-        self.fronts[at].flits.file(here, port, front);
+        let fronts = &mut self.fronts[at].flits;
+        let link = &mut self.lists[usize::from(number)];
+        fronts.pop_listed(here, port, &mut link.flits);
     }
 
     /// Puts the flit at the end of the link out of this port.
@@ -309,15 +313,14 @@ impl Links {
         let entered = self.wiring.entered(node, port);
         let at = usize::from(beyond);
         let there = &mut self.arrivals[at].flits;
-        let fronts = &mut self.fronts[at];
+        let fronts = &mut self.fronts[at].flits;
         if !there.contains(entered) {
-            fronts.flits.put(there, entered, flit);
+            fronts.put(there, entered, flit);
             return;
         }
         let number = self.wiring.links_beyond(node, port).out;
-        let list = &mut self.lists[usize::from(number)];
-        fronts.spill_flits(entered, list);
-        list.push(flit);
+        let link = &mut self.lists[usize::from(number)];
+        fronts.push_listed(entered, &mut link.flits, flit);
     }
 
     /// Puts a flit from another worker's node at the end of the link into this port, on which there is none.
@@ -332,8 +335,7 @@ impl Links {
     {
         let at = usize::from(node);
         let here = &mut self.arrivals[at].flits;
-        let fronts = &mut self.fronts[at];
-        fronts.flits.put(here, port, flit);
+        self.fronts[at].flits.put(here, port, flit);
     }
 
     /// Drops the front credit of the link out of this port.
@@ -359,12 +361,11 @@ impl Links {
             { credits = drop 1 (state_at self.old (number_out self.old node port)).credits }) }
     {
         let number = self.wiring.links_beyond(node, port).out;
-        let list = &mut self.lists[usize::from(number)];
-        list.pop_credit();
-        let front = list.front_credit();
         let at = usize::from(node);
         let here = &mut self.arrivals[at].credits;
-        self.fronts[at].credits.file(here, port, front);
+        let fronts = &mut self.fronts[at].credits;
+        let link = &mut self.lists[usize::from(number)];
+        fronts.pop_listed(here, port, &mut link.credits);
     }
 
     /// Puts a credit of the channel at the end of the credits of the link into this port.
@@ -380,15 +381,14 @@ impl Links {
         let entered = self.wiring.entered(node, port);
         let at = usize::from(beyond);
         let there = &mut self.arrivals[at].credits;
-        let fronts = &mut self.fronts[at];
+        let fronts = &mut self.fronts[at].credits;
         if !there.contains(entered) {
-            fronts.credits.put(there, entered, vc);
+            fronts.put(there, entered, vc);
             return;
         }
         let number = self.wiring.links_beyond(node, port).into;
-        let list = &mut self.lists[usize::from(number)];
-        fronts.spill_credits(entered, list);
-        list.push_credit(vc);
+        let link = &mut self.lists[usize::from(number)];
+        fronts.push_listed(entered, &mut link.credits, vc);
     }
 
     /// Puts a credit of the channel at the end of the credits of the link out of this port, of which there is none.
@@ -403,7 +403,6 @@ impl Links {
     {
         let at = usize::from(node);
         let here = &mut self.arrivals[at].credits;
-        let fronts = &mut self.fronts[at];
-        fronts.credits.put(here, port, vc);
+        self.fronts[at].credits.put(here, port, vc);
     }
 }

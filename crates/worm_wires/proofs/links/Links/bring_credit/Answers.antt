@@ -1,58 +1,29 @@
-use Rattle.std.proofs.Common.{◌≡◌, false, get_or, arith, rules, refl}
-use Rattle.worm_flit.specs.SmallSet.{has}
-use Rattle.worm_wires.specs.Inbox.{Inbox, inbox_by, inboxes_by}
-use Rattle.worm_wires.specs.declared.inbox.Arrivals.{Arrivals}
-use Rattle.worm_wires.specs.declared.inbox.NodeFronts.{NodeFronts}
-use Rattle.worm_wires.proofs.Called.{IsCall, IsLinked, linked_of}
+use Rattle.std.proofs.Common.{arith, rules}
 use Rattle.worm_wires.proofs.EachKind.{credits_kind}
-use Rattle.worm_wires.proofs.Joined.{call_of, filed_by, seen_by}
-use Rattle.worm_wires.proofs.TrayCalled.{none_come, none_more}
-use Rattle.worm_wires.proofs.TrayMoved.{alone_pushed, alone_sound}
+use Rattle.worm_wires.proofs.Moved.{brought, none_brought, numbered}
 use Rattle.worm_wires.proofs.links.Links.bring_credit.Goals as goal
-use Rattle.worm_wires.proofs.links.Links.bring_credit.Goals.{After-index_mut-fronts}
 
-module _ (c : After-index_mut-fronts) where
-  -- the node's inbox
-  abbrev sets : Arrivals
-  sets = get_or c.self.inside.arrivals c.from-at.result c.index-self-at.result
-
-  abbrev read : Inbox
-  read = inbox_by sets c.index_mut-fronts.result.now
-
-  call : IsCall c.self.inside.wiring c.self.inside.lists.items
-      (inboxes_by c.self.inside.arrivals c.self.inside.fronts.items) c.args.self.now c.args.node c.from-at.result read
-  call =
-      call_of c.self.invariant c.from-at.result c.args.self.now c.args.node c.index-self-at.result
-      c.index_mut-fronts.result.now c.self.view_is (omega arith) c.from-at.ensures c.index_mut-fronts.ensures.value
-
-  linked : IsLinked c.self.inside.wiring c.args.self.now c.args.node c.args.port
-  linked =
-      linked_of c.self.inside.wiring _ c.args.self.now c.args.node c.args.port c.self.view_is c.requires.linked
-
-  none : has read.credits.here c.args.port ≡ false
-  none = none_come credits_kind call linked.out _ refl c.requires.empty
+pub put-requires : goal.put-requires
+put-requires c = (
+  search rules,
+  (
+    search rules,
+    none_brought credits_kind c.self.invariant c.self.view_is c.from-at.ensures (omega arith) c.index-self-at.result
+        c.index_mut.result.now c.index_mut.ensures.value
+        (numbered credits_kind c.args.node c.args.port c.self.view_is c.requires.linked) c.requires.empty,
+  ),
+)
 
 pub invariant_of-self : goal.invariant_of-self
 invariant_of-self c =
-    let before = (goal.at.invariant_of-self c).After-index_mut-fronts in
-    let now : Arrivals = record (sets before) { credits = c.put.new.here } in
-    let fronts : NodeFronts = record c.index_mut-fronts.result.now { credits = c.put.new.self } in
-    filed_by c.self.invariant c.from-at.result now fronts _
-    (alone_sound credits_kind (call before) (linked before).out _ refl c.args.vc (none before) c.requires.room
-    (inbox_by now fronts) c.put.ensures refl)
+    (brought credits_kind c.self.invariant c.self.view_is c.from-at.ensures (omega arith) c.index-self-at.result
+    c.index_mut.result.now c.index_mut.ensures.value
+    (numbered credits_kind c.args.node c.args.port c.self.view_is c.requires.linked) c.put.new.here c.put.new.self
+    c.args.vc c.requires.empty c.requires.room c.put.ensures).filed
 
 pub returns : goal.returns
 returns c =
-    let before = (goal.at.returns c).After-index_mut-fronts in
-    let now : Arrivals = record (sets before) { credits = c.put.new.here } in
-    let fronts : NodeFronts = record c.index_mut-fronts.result.now { credits = c.put.new.self } in
-    seen_by c.self.invariant c.from-at.result now fronts _ _
-    (alone_pushed credits_kind (call before) (linked before).out _ refl c.args.vc (none before)
-    c.requires.room (inbox_by now fronts) c.put.ensures refl)
-
-pub put-requires : goal.put-requires
-put-requires c =
-    let before = (goal.at.put-requires c).After-index_mut-fronts in (
-      search rules,
-      (search rules, none_more credits_kind (call before) (linked before).out (none before)),
-    )
+    (brought credits_kind c.self.invariant c.self.view_is c.from-at.ensures (omega arith) c.index-self-at.result
+    c.index_mut.result.now c.index_mut.ensures.value
+    (numbered credits_kind c.args.node c.args.port c.self.view_is c.requires.linked) c.put.new.here c.put.new.self
+    c.args.vc c.requires.empty c.requires.room c.put.ensures).seen

@@ -3,7 +3,8 @@ use Rattle.worm_wires.specs.Arrivals.{LinksView, credits_to, flits_to}
 use Rattle.worm_wires.specs.Inbox.{inbox_by, inboxes_by}
 use Rattle.worm_wires.specs.declared.inbox.Arrivals.{Arrivals}
 use Rattle.worm_wires.proofs.ArrivalsFound.{come_by, credits_past, flits_past, none_come, true_of}
-use Rattle.worm_wires.proofs.Called.{IsCall, credits_read, flits_read}
+use Rattle.worm_wires.proofs.Called.{IsCall, come_read}
+use Rattle.worm_wires.proofs.EachKind.{credits_kind, flits_kind}
 use Rattle.worm_wires.proofs.Joined.{no_fronts, sets_call_of}
 use Rattle.worm_wires.proofs.links.Links.brings_nothing.Goals as goal
 use Rattle.worm_wires.proofs.links.Links.brings_nothing.Goals.{After-is_empty}
@@ -29,14 +30,14 @@ returns-then-is_empty-clause-flits c = λ nothing.
     let before = (goal.at.returns-then-is_empty-clause-flits c).After-is_empty in
     none_come (flits_to c.args.self.now c.args.node) (sets before).flits
     (2 * length c.args.self.now.mesh)
-    (flits_read (call before)) (past_few before) (flits_past c.args.self.now c.args.node)
+    (come_read (call before) flits_kind) (past_few before) (flits_past c.args.self.now c.args.node)
     (sym c.is_empty.ensures.value ∙ c.if-is_empty.true)
 
 pub returns-then-is_empty-clause-credits : goal.returns-then-is_empty-clause-credits
 returns-then-is_empty-clause-credits c = λ nothing.
     let before = (goal.at.returns-then-is_empty-clause-credits c).After-is_empty in
     none_come (credits_to c.args.self.now c.args.node) (sets before).credits
-    (2 * length c.args.self.now.mesh) (credits_read (call before)) (past_few before)
+    (2 * length c.args.self.now.mesh) (come_read (call before) credits_kind) (past_few before)
     (credits_past c.args.self.now c.args.node)
     (sym c.is_empty-then-is_empty.ensures.value ∙ true_of c.is_empty-then-is_empty.result nothing)
 
@@ -45,7 +46,7 @@ returns-then-is_empty-clause-nothing c = λ no_flits no_credits.
     let before = (goal.at.returns-then-is_empty-clause-nothing c).After-is_empty in
     come_by (credits_to c.args.self.now c.args.node) (sets before).credits
     c.is_empty-then-is_empty.result
-    (credits_read (call before))
+    (come_read (call before) credits_kind)
     c.is_empty-then-is_empty.ensures.some
     no_credits
 
@@ -53,5 +54,5 @@ pub returns-else-is_empty-clause-nothing : goal.returns-else-is_empty-clause-not
 returns-else-is_empty-clause-nothing c = λ no_flits no_credits.
     let before = (goal.at.returns-else-is_empty-clause-nothing c).After-is_empty in
     come_by (flits_to c.args.self.now c.args.node) (sets before).flits c.is_empty.result
-    (flits_read (call before)) c.is_empty.ensures.some
+    (come_read (call before) flits_kind) c.is_empty.ensures.some
     no_flits

@@ -1,67 +1,41 @@
-use Rattle.std.proofs.Common.{List, get_or, length, ap, ◌∙◌, arith, sym, refl}
+use Rattle.std.proofs.Common.{◌≡◌, ◌∙◌, List, ap, arith, length, sym}
 use Rattle.std.specs.Prelude.{slice_get}
+use Rattle.std.proofs.lemmas.Option.{slice_get_read}
 use Rattle.worm_flit.specs.declared.Flit.{Flit}
-use Rattle.worm_flit.specs.SmallSet.{has}
-use Rattle.worm_wires.specs.Inbox.{Inbox, inbox_by, inboxes_by}
-use Rattle.worm_wires.specs.Links.{LinkView}
-use Rattle.worm_wires.proofs.Called.{AreNumbers, IsCall, numbers_by}
+use Rattle.worm_wires.specs.Arrivals.{LinksView, number_out, state_at}
 use Rattle.worm_wires.proofs.EachKind.{flits_kind}
-use Rattle.worm_wires.proofs.Joined.{call_of, no_arrivals}
-use Rattle.worm_wires.proofs.TrayCalled.{seen_is, seen_listed, the_list, way}
-use Rattle.worm_wires.proofs.Ways.{alone_at}
+use Rattle.worm_wires.proofs.Joined.{no_arrivals}
+use Rattle.worm_wires.proofs.Moved.{by_links, lone_at, seen_listed}
 use Rattle.worm_wires.proofs.links.Links.flit.Goals as goal
-use Rattle.worm_wires.proofs.links.Links.flit.Goals.{After-contains}
+use Rattle.worm_wires.proofs.links.Links.flit.Goals.{After-link}
 
-numbers : (c : After-contains) → AreNumbers c.self.inside.wiring c.args.self.now c.args.node c.args.port
-    c.links_beyond-links.result
-numbers c =
-    numbers_by c.self.inside.wiring _ c.args.self.now c.args.node c.args.port c.links_beyond-links.result
-    c.self.invariant.inboxes.radices c.self.view_is c.links_beyond-links.ensures.value
+-- the list is what is seen
+listed : (c : After-link) → (state_at c.args.self.now (number_out c.args.self.now c.args.node c.args.port)).flits
+    ≡ c.link.inside.flits.items
+listed c =
+    seen_listed flits_kind c.self.invariant c.self.view_is c.from.ensures (omega arith) no_arrivals
+    c.index-there.result.now c.index-there.ensures
+    (by_links flits_kind c.args.node c.args.port c.self.view_is c.self.invariant.inboxes.radices
+    c.links_beyond-links.ensures.value) c.from-then-contains.result _
+    (c.from-then-contains.ensures ∙ c.links_beyond-links.ensures.out
+    ∙ ap (λ (l : LinksView). number_out l c.args.node c.args.port) c.self.view_is) c.link.view_is
+    c.index-link.ensures (sym c.contains.ensures ∙ c.if-contains.true)
 
--- the inbox beyond
-abbrev inbox : After-contains → Inbox
-inbox c = inbox_by (get_or c.self.inside.arrivals c.from.result no_arrivals) c.index-there.result.now
-
-call : (c : After-contains) → IsCall c.self.inside.wiring c.self.inside.lists.items
-    (inboxes_by c.self.inside.arrivals c.self.inside.fronts.items) c.args.self.now
-    c.links_beyond-links.result.beyond c.from.result (inbox c)
-call c =
-    call_of c.self.invariant c.from.result c.args.self.now c.links_beyond-links.result.beyond no_arrivals
-    c.index-there.result.now c.self.view_is (omega arith) c.from.ensures c.index-there.ensures
-
-pub flit-requires : goal.flit-requires
-flit-requires c =
-    let before = (goal.at.flit-requires c).After-contains in
-    let link = (numbers before).in_beyond in
-    let list = the_list flits_kind (call before) link c.from-then-contains.result c.index.result.now
-    c.from-then-contains.ensures c.index.ensures in
-    let same = ap (λ (l : LinkView). length l.flits) list in
-    let seen = ap (λ (fs : List Flit). length fs) (seen_listed flits_kind (call before) link _ (numbers before).out_now
-    (sym c.contains.ensures ∙ c.if-contains.true)) in
-    omega (arith, c.requires.place, same, seen)
+pub index-requires : goal.index-requires
+index-requires c =
+    let long = ap (λ (fs : List Flit). length fs) (listed c) in omega (arith, c.requires.place, long)
 
 pub returns-then-contains : goal.returns-then-contains
 returns-then-contains c =
-    let before = (goal.at.returns-then-contains c).After-contains in
-    let link = (numbers before).in_beyond in
-    let list = the_list flits_kind (call before) link c.from-then-contains.result c.index.result.now
-    c.from-then-contains.ensures c.index.ensures in
-    let seen = seen_listed flits_kind (call before) link _ (numbers before).out_now
-    (sym c.contains.ensures ∙ c.if-contains.true) in
-    ap (λ (fs : List Flit). slice_get fs c.args.i) (seen ∙ ap (λ (l : LinkView). l.flits) (sym list))
-    ∙ c.flit.ensures
+    let same = listed (goal.at.returns-then-contains c).After-link in
+    ap (λ (fs : List Flit). slice_get fs c.args.i) same
+    ∙ slice_get_read c.link.inside.flits.items _ c.args.i c.index.result.now (ap (λ (fs : List Flit). length fs) same)
+    c.requires.place c.index.ensures
 
 pub returns : goal.returns
 returns c =
-    let before = (goal.at.returns c).After-contains in
-    let link = (numbers before).in_beyond in
-    let read = inbox before in
-    let port = c.links_beyond-links.result.entered in
-    let seen = seen_is flits_kind (call before) link _ (numbers before).out_now in
-    let long = ap (λ (fs : List Flit). length fs) seen in
-    ap (λ (fs : List Flit). slice_get fs c.args.i) seen
-    ∙ alone_at (has read.flits.here port) (has read.flits.more port) (slice_get read.flits.front port) _ _
-    (way flits_kind (call before) link)
-    (sym c.contains.ensures ∙ c.if-contains.false) c.args.i (omega (arith, c.requires.place, long)) read.flits.front
-    port
-    c.from-2.result _ c.from-2.ensures refl
+    lone_at flits_kind c.self.invariant c.self.view_is c.from.ensures (omega arith) no_arrivals
+    c.index-there.result.now c.index-there.ensures
+    (by_links flits_kind c.args.node c.args.port c.self.view_is c.self.invariant.inboxes.radices
+    c.links_beyond-links.ensures.value) (sym c.contains.ensures ∙ c.if-contains.false) c.args.i c.requires.place
+    c.from-2.result _ c.from-2.ensures

@@ -1,9 +1,10 @@
 use Rattle.std.proofs.Common.{arith}
-use Rattle.worm_wires.proofs.Called.{flits_read}
+use Rattle.worm_wires.proofs.Called.{come_read}
+use Rattle.worm_wires.proofs.EachKind.{flits_kind}
 use Rattle.worm_wires.proofs.Joined.{sets_call_of}
 use Rattle.worm_wires.proofs.links.Links.flits_in.Goals as goal
 
 pub returns : goal.returns
 returns c =
-    flits_read (sets_call_of c.self.invariant c.from.result c.args.self.now c.args.node c.index-self-from.result
-    c.self.view_is (omega arith) c.from.ensures)
+    come_read (sets_call_of c.self.invariant c.from.result c.args.self.now c.args.node c.index-self-from.result
+    c.self.view_is (omega arith) c.from.ensures) flits_kind

@@ -1,61 +1,28 @@
-use Rattle.std.proofs.Common.{◌≡◌, get_or, ap, ◌∙◌, arith, sym, refl}
-use Rattle.std.specs.Prelude.{slice_get}
-use Rattle.worm_wires.specs.Arrivals.{number_into}
-use Rattle.worm_wires.specs.Inbox.{inbox_by, inboxes_by}
-use Rattle.worm_wires.specs.Links.{LinkView}
-use Rattle.worm_wires.specs.declared.inbox.Arrivals.{Arrivals}
-use Rattle.worm_wires.specs.declared.inbox.NodeFronts.{NodeFronts}
-use Rattle.worm_wires.proofs.Called.{IsCall, IsLinked, linked_of, numbers_by}
+use Rattle.std.proofs.Common.{◌∙◌, ℕ, ap, arith, min, refl}
+use Rattle.std.specs.VecDeque.{deque_capacity}
+use Rattle.worm_wires.specs.Arrivals.{LinksView, number_into}
 use Rattle.worm_wires.proofs.EachKind.{flits_kind}
-use Rattle.worm_wires.proofs.Joined.{call_of, filed_by, seen_by}
-use Rattle.worm_wires.proofs.TrayMoved.{left_popped, left_sound}
+use Rattle.worm_wires.proofs.Moved.{numbered, popped}
 use Rattle.worm_wires.proofs.links.Links.pop_listed.Goals as goal
-use Rattle.worm_wires.proofs.links.Links.pop_listed.Goals.{After-file, After-from}
-
--- the link's number
-number : (c : After-from) → c.from.result ≡ number_into c.args.self.now c.args.node c.args.port
-number c =
-    c.from.ensures
-    ∙ sym (numbers_by c.self.inside.wiring _ c.args.self.now c.args.node c.args.port c.links_beyond-number.result
-    c.self.invariant.inboxes.radices c.self.view_is c.links_beyond-number.ensures.value).into_now
-
-linked : (c : After-file) → IsLinked c.self.inside.wiring c.args.self.now c.args.node c.args.port
-linked c = linked_of c.self.inside.wiring _ c.args.self.now c.args.node c.args.port c.self.view_is c.requires
-
--- the node's ports at which one comes in
-abbrev sets : After-file → Arrivals
-sets c = get_or c.self.inside.arrivals c.from-at.result c.index-self-at.result
-
-call : (c : After-file) → IsCall c.self.inside.wiring c.self.inside.lists.items
-    (inboxes_by c.self.inside.arrivals c.self.inside.fronts.items) c.args.self.now c.args.node c.from-at.result
-    (inbox_by (sets c) c.index_mut.result.now)
-call c =
-    call_of c.self.invariant c.from-at.result c.args.self.now c.args.node c.index-self-at.result c.index_mut.result.now
-    c.self.view_is (omega arith) c.from-at.ensures c.index_mut.ensures.value
-
-next : (c : After-file) → c.copied-front.result ≡ slice_get c.pop.new.self.flits 0
-next c = c.copied-front.ensures ∙ c.front.ensures.value
 
 pub invariant_of-self : goal.invariant_of-self
 invariant_of-self c =
-    let before = (goal.at.invariant_of-self c).After-file in
-    let now : Arrivals = record (sets before) { flits = c.file.new.here } in
-    let fronts : NodeFronts = record c.index_mut.result.now { flits = c.file.new.self } in
-    filed_by c.self.invariant c.from-at.result now fronts _
-    (left_sound flits_kind (call before) (linked before).into _ refl c.from.result c.index_mut-list.result.now
-    (number (goal.at.invariant_of-self c).After-from) c.index_mut-list.ensures.value c.pop.new.self
-    (ap (λ (l : LinkView). l.credits) c.pop.ensures) (ap (λ (l : LinkView). l.room) c.pop.ensures)
-    (ap (λ (l : LinkView). l.flits) c.pop.ensures) (inbox_by now fronts) _ (next before)
-    c.file.ensures refl)
+    (popped flits_kind c.self.invariant c.self.view_is c.from-at.ensures (omega arith)
+    c.index-self-at.result c.index_mut.result.now c.index_mut.ensures.value
+    (numbered flits_kind c.args.node c.args.port c.self.view_is c.requires) c.from.result _
+    (c.from.ensures ∙ c.links_beyond-number.ensures.into
+    ∙ ap (λ (l : LinksView). number_into l c.args.node c.args.port) c.self.view_is) c.link.view_is
+    c.index_mut-link.ensures.value _ refl
+    (ap (λ (n : ℕ). min n (deque_capacity c.link.inside.credits)) c.pop_listed.ensures.room) c.pop_listed.new.here
+    c.pop_listed.new.self c.pop_listed.ensures.list c.pop_listed.ensures.filed).filed
 
 pub returns : goal.returns
 returns c =
-    let before = (goal.at.returns c).After-file in
-    let now : Arrivals = record (sets before) { flits = c.file.new.here } in
-    let fronts : NodeFronts = record c.index_mut.result.now { flits = c.file.new.self } in
-    seen_by c.self.invariant c.from-at.result now fronts _ _
-    (left_popped flits_kind (call before) (linked before).into _ refl c.from.result c.index_mut-list.result.now
-    (number (goal.at.returns c).After-from) c.index_mut-list.ensures.value c.pop.new.self
-    (ap (λ (l : LinkView). l.credits) c.pop.ensures) (ap (λ (l : LinkView). l.room) c.pop.ensures)
-    (ap (λ (l : LinkView). l.flits) c.pop.ensures) (inbox_by now fronts) _ (next before)
-    c.file.ensures refl)
+    (popped flits_kind c.self.invariant c.self.view_is c.from-at.ensures (omega arith)
+    c.index-self-at.result c.index_mut.result.now c.index_mut.ensures.value
+    (numbered flits_kind c.args.node c.args.port c.self.view_is c.requires) c.from.result _
+    (c.from.ensures ∙ c.links_beyond-number.ensures.into
+    ∙ ap (λ (l : LinksView). number_into l c.args.node c.args.port) c.self.view_is) c.link.view_is
+    c.index_mut-link.ensures.value _ refl
+    (ap (λ (n : ℕ). min n (deque_capacity c.link.inside.credits)) c.pop_listed.ensures.room) c.pop_listed.new.here
+    c.pop_listed.new.self c.pop_listed.ensures.list c.pop_listed.ensures.filed).seen
