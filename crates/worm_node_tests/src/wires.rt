@@ -65,22 +65,20 @@ fn link_with(
 /// So many flits are on the link, and this one at this place.
 fn has_flit(rt: &impl Abort, link: &LinkState, count: usize, place: usize, flit: Flit) {
     assert_eq!(rt; link.count(), count);
-    assert!(rt; place < link.count());
-    assert_eq!(rt; link.flit(place), flit);
+    assert_eq!(rt; link.flits.get(place).copied(), Some(flit));
 }
 
 /// The front credit is of this channel, and is dropped; none where there is no credit.
 fn gives_credit(rt: &impl Abort, link: &mut LinkState, vc: Option<u8>) {
-    assert_eq!(rt; link.front_credit(), vc);
-    link.pop_credit();
+    assert_eq!(rt; link.credits.pop_front(), vc);
 }
 
 #[test]
 fn a_link_keeps_its_order(rt: HostRuntime) {
     let mut link = link_with(&rt, rt.alloc(), 3, &[5, 6, 7], &[0, 2]);
-    link.pop();
+    assert_eq!(rt; link.flits.pop_front(), Some(single(0, 5)));
     has_flit(&rt, &link, 2, 1, single(0, 7));
-    assert_eq!(rt; link.front().copied(), Some(single(0, 6)));
+    assert_eq!(rt; link.flits.front().copied(), Some(single(0, 6)));
     gives_credit(&rt, &mut link, Some(0));
     gives_credit(&rt, &mut link, Some(2));
     gives_credit(&rt, &mut link, None);

@@ -26,7 +26,7 @@ whole_spilled false more front [] room way e = refl
 whole_spilled here more front (x ∷ xs) room way e = refl
 
 -- a port that has no link
-unlinked_spilled : {A : Type 0} (list : LinkView → List A) (links : List LinkView) (here more : Bool)
+pub unlinked_spilled : {A : Type 0} (list : LinkView → List A) (links : List LinkView) (here more : Bool)
     (front : Option A) (n : Option ℕ) → n ≡ None → IsWay here more front (on_link list links n) (room_of links n)
     → here ≡ more
 unlinked_spilled list links true more front None e way = absurd (omega (arith, (way.alone refl refl).0))

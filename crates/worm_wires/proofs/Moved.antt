@@ -7,7 +7,7 @@ use Rattle.std.proofs.lemmas.List.{set-get_or}
 use Rattle.worm_flit.specs.SmallSet.{has, IsPut}
 use Rattle.worm_mesh.specs.Address.{AreRadices, neighbour_of, opposite_of}
 use Rattle.worm_wires.specs.Arrivals.{LinksView, has_front, state_at, with_state}
-use Rattle.worm_wires.specs.Inbox.{AreFiled, AreSeenAlike, Inbox, IsFiled, IsPortSpilled, IsWay, IsWayOf, Kind, Tray}
+use Rattle.worm_wires.specs.Inbox.{AreFiled, AreSeenAlike, Inbox, IsFiled, IsWay, IsWayOf, Kind, Tray}
 use Rattle.worm_wires.specs.Inbox.{front_of, inbox_by, inboxes_by, links_by, tray_of, whole}
 use Rattle.worm_wires.specs.Links.{LinkView, blank_link}
 use Rattle.worm_wires.specs.Wiring.{port_links}
@@ -18,12 +18,13 @@ use Rattle.worm_wires.specs.declared.wiring.PortLinks.{PortLinks}
 use Rattle.worm_wires.proofs.Called.{AreSeen, IsCall}
 use Rattle.worm_wires.proofs.EachKind.{IsKind}
 use Rattle.worm_wires.proofs.Joined.{AreLinks, call_of, fronts_set, joined_set, links_are, sets_set}
-use Rattle.worm_wires.proofs.Spilled.{port_put, port_stays}
-use Rattle.worm_wires.proofs.TrayCalled.{both_written, first_read, inbox_written, linked_read, room_is, seen_is}
-use Rattle.worm_wires.proofs.TrayCalled.{seen_read, the_list, way, way_read}
-use Rattle.worm_wires.proofs.Ways.{all_listed, alone_at, alone_dropped, comes_by, count_alone, front_by, list_dropped}
+use Rattle.worm_wires.proofs.Spilled.{IsPortSpilled, port_put}
+use Rattle.worm_wires.proofs.TrayCalled.{both_written, inbox_written, room_is, seen_is, seen_read, the_list, way}
+use Rattle.worm_wires.proofs.TrayCalled.{way_read}
+use Rattle.worm_wires.proofs.Ways.{all_listed, alone_at, alone_dropped, comes_by, count_alone, first_by, front_by}
+use Rattle.worm_wires.proofs.Ways.{list_dropped}
 use Rattle.worm_wires.proofs.Ways.{not_here, not_listed, one_behind, one_pushed, spilled_way, way_alone, way_front}
-use Rattle.worm_wires.proofs.Ways.{way_more, way_none, way_same, whole_front, whole_twice}
+use Rattle.worm_wires.proofs.Ways.{way_more, way_none, way_same, way_wider, whole_front}
 use Rattle.worm_wires.proofs.Wired.{parts}
 
 -- The link of a port that has a neighbour, and of the port that is entered beyond it
@@ -185,19 +186,18 @@ module _ {A B : Type 0} {kind : Kind A} {other : Kind B} {put : LinkView → Lis
       seen_listed some =
           seen_behind ∙ all_listed (has tray.here p) (has tray.more p) (front p) (kind.list list) _ way_behind some
 
-      -- and where one comes in
-      seen_whole : has tray.here p ≡ true → kind.list (state_at now k) ≡ whole true (front p) (kind.list list)
-      seen_whole some = seen_behind ∙ ap (λ (b : Bool). whole b (front p) (kind.list list)) some
+      -- what a spill asks of the list, and a push behind those that come in
+      pub spills : (cap : ℕ) → list.room ≤ cap → IsWayOf tray p (kind.list list) cap
+      spills cap wider = way_wider cap way_behind wider
 
-      -- what a push behind those that come in asks of the list
-      pub pushes : has tray.here p ≡ true → length (kind.list (state_at now k)) < (state_at now k).room → (cap : ℕ)
-          → list.room ≤ cap → (has tray.more p ≡ has_front (kind.list list))
-          × (length (whole true (front p) (kind.list list)) < cap)
-      pushes some fits cap wider =
-          let long = ap (λ (l : List A). length l) (seen_whole some) in
+      pub pushes : length (kind.list (state_at now k)) < (state_at now k).room → (cap : ℕ) → list.room ≤ cap
+          → IsWayOf tray p (kind.list list) cap
+          × (length (whole (has tray.here p) (front p) (kind.list list)) < cap)
+      pushes fits cap wider =
+          let long = ap (λ (l : List A). length l) seen_behind in
           let same = room_is is call read by
           ∙ ap (λ (l : LinkView). l.room) (sym (the_list is call read by j list number there)) in
-          (way_behind.listed, omega (arith, fits, long, same, wider))
+          (spills cap wider, omega (arith, fits, long, same, wider))
 
       module _ (link : LinkView) (same : other.list link ≡ other.list list) (room : link.room ≡ list.room) where
         pub popped : (here : ℕ) (these : Fronts A) → kind.list link ≡ drop 1 (kind.list list)
@@ -216,89 +216,63 @@ module _ {A B : Type 0} {kind : Kind A} {other : Kind B} {put : LinkView → Lis
             ∙ ap (λ (l : List A). drop 1 l) (sym seen_behind)))
 
         -- what comes in stays, and goes into the list
-        module _ (these : Fronts A) (some : has tray.here p ≡ true)
-            (placed : IsFiled tray (tray_of (kind.here sets) these) p true true (front p)) where
-          stayed : (way_now : IsWay true true (slice_get these.front p) (kind.list link) link.room) (fs : List A)
-              → whole true (slice_get these.front p) (kind.list link) ≡ fs
-              → AreSeen mesh (set lists j link) (set (inboxes_by arrivals fronts) i (box (kind.here sets) these))
-              (with_state now k (put (state_at now k) fs))
-          stayed =
-              both_written is call read by j list number there (box (kind.here sets) these)
-              (is.put_tray sets f (kind.here sets) these) (is.put_other sets f (kind.here sets) these) true true (front p)
-              placed link same room
+        module _ (these : Fronts A)
+            (placed : IsFiled tray (tray_of (kind.here sets) these) p (has tray.here p) (has tray.here p) (front p))
+          where
+            stayed : IsWay (has tray.here p) (has tray.here p) (slice_get these.front p) (kind.list link) link.room
+                → (fs : List A) → whole (has tray.here p) (slice_get these.front p) (kind.list link) ≡ fs
+                → AreSeen mesh (set lists j link) (set (inboxes_by arrivals fronts) i (box (kind.here sets) these))
+                (with_state now k (put (state_at now k) fs))
+            stayed =
+                both_written is call read by j list number there (box (kind.here sets) these)
+                (is.put_tray sets f (kind.here sets) these) (is.put_other sets f (kind.here sets) these) (has tray.here p)
+                (has tray.here p) (front p) placed link same room
 
-          pub pushed_behind : (item : A) → kind.list link ≡ whole true (front p) (kind.list list) ++ item ∷ []
-              → AreLinks mesh (set lists j link) (set arrivals i sets) (fronts_with these)
-              (with_state now k (put (state_at now k) (kind.list (state_at now k) ++ item ∷ [])))
-          pushed_behind item pushed =
-              let first = first_read is call read by j list number there some in
-              links_are (rw length-set filed.all)
-              (ap (λ (a : Arrivals). inboxes_by (set arrivals i a) (fronts_with these)) (sym (is.here_kept sets))
-              ∙ both_set (kind.here sets) these)
-              (stayed
-              (subst (λ (l : List A). IsWay true true (slice_get these.front p) l link.room) (sym pushed)
-              (way_more (slice_get these.front p) _ item _ first.0 (placed.first refl ∙ sym first.1))) _
-              (ap (λ (l : List A). whole true (slice_get these.front p) l) pushed
-              ∙ one_behind (slice_get these.front p) _ item
-              ∙ ap (λ (l : List A). l ++ item ∷ []) (sym (seen_whole some))))
+            pub pushed_behind : (item : A) → has tray.here p ≡ true
+                → kind.list link ≡ whole (has tray.here p) (front p) (kind.list list) ++ item ∷ []
+                → AreLinks mesh (set lists j link) (set arrivals i sets) (fronts_with these)
+                (with_state now k (put (state_at now k) (kind.list (state_at now k) ++ item ∷ [])))
+            pushed_behind item some pushed =
+                let comes = comes_by (has tray.here p) (has tray.more p) (front p) (kind.list list) _ way_behind in
+                let first = first_by (has tray.here p) (has tray.more p) (front p) (kind.list list) _ way_behind some in
+                links_are (rw length-set filed.all)
+                (ap (λ (a : Arrivals). inboxes_by (set arrivals i a) (fronts_with these)) (sym (is.here_kept sets))
+                ∙ both_set (kind.here sets) these)
+                (stayed
+                (subst (λ (b : Bool). IsWay b b (slice_get these.front p) (kind.list link) link.room) (sym some)
+                (subst (λ (l : List A). IsWay true true (slice_get these.front p) l link.room) (sym pushed)
+                (way_more (slice_get these.front p) _ item _ (comes ∙ some) (placed.first some ∙ sym first)))) _
+                (ap (λ (l : List A). whole (has tray.here p) (slice_get these.front p) l) pushed
+                ∙ one_behind (has tray.here p) (slice_get these.front p) _ item
+                ∙ ap (λ (l : List A). l ++ item ∷ []) (sym seen_behind)))
 
-          moved : kind.list link ≡ whole true (front p) (kind.list list)
-              → AreSeen mesh (set lists j link) (set (inboxes_by arrivals fronts) i (box (kind.here sets) these)) now
-          moved all =
-              let way_now = subst
-              (λ (b : Bool). IsWay b (has tray.more p) (front p) (kind.list list) list.room) some way_behind in
-              let are = stayed
-              (way_same true true true true (front p) (slice_get these.front p) (whole true (front p) (kind.list list))
-              (kind.list link) list.room link.room
-              (spilled_way (has tray.more p) (front p) (kind.list list) list.room way_now) refl refl (placed.first refl)
-              all room) (kind.list (state_at now k))
-              ((λ t. whole true (placed.first refl t) (all t)) ∙ whole_twice (front p) (kind.list list)
-              ∙ sym (seen_whole some)) in
-              record {
-                sound = are.sound;
-                seen = are.seen ∙ ap (λ (l : LinkView). with_state now k l) (is.is_put (state_at now k))
-                    ∙ (λ t. record { mesh = now.mesh; states = set-get_or now.states k blank_link t });
-              }
+            moved : kind.list link ≡ whole (has tray.here p) (front p) (kind.list list)
+                → AreSeen mesh (set lists j link) (set (inboxes_by arrivals fronts) i (box (kind.here sets) these)) now
+            moved all =
+                let now_spilled = spilled_way (has tray.here p) (has tray.more p) (front p) (slice_get these.front p)
+                (kind.list list) list.room way_behind placed.first in
+                let are = stayed
+                (way_same (has tray.here p) (has tray.here p) (has tray.here p) (has tray.here p)
+                (slice_get these.front p) (slice_get these.front p) (whole (has tray.here p) (front p) (kind.list list))
+                (kind.list link) list.room link.room now_spilled.0 refl refl refl all room) (kind.list (state_at now k))
+                (ap (λ (l : List A). whole (has tray.here p) (slice_get these.front p) l) all ∙ now_spilled.1
+                ∙ sym seen_behind) in
+                record {
+                  sound = are.sound;
+                  seen = are.seen ∙ ap (λ (l : LinkView). with_state now k l) (is.is_put (state_at now k))
+                      ∙ (λ t. record { mesh = now.mesh; states = set-get_or now.states k blank_link t });
+                }
 
-  -- What comes in by a port is put into the list of its link
-
-  module _ {p : ℕ} (p_in : p < 6) where
-    -- where none does
-    pub none_spilled : has tray.here p ≡ false
-        → IsPortSpilled kind other (inboxes_by arrivals fronts) (inboxes_by arrivals (set fronts i f)) x p
-    none_spilled none =
-        subst (λ (boxes : List Inbox). IsPortSpilled kind other (inboxes_by arrivals fronts) boxes x p)
-        (sym (fronts_set filed i d f)) (port_stays is call read p (omega (arith, p_in)) none)
-
-    module _ (some : has tray.here p ≡ true) where
-      pub linked : IsSome (neighbour_of mesh x p)
-      linked = linked_read is call read p (omega (arith, p_in)) some
-
-      module _ (j : ℕ) (list : LinkView) {l : LinkView} (number : j ≡ kind.number mesh x p) (opened : list ≡ l)
-          (listed : l ≡ get_or lists j l) where
-        -- what it asks of the list
-        pub spills : (cap : ℕ) → list.room ≤ cap → (has tray.more p ≡ has_front (kind.list list))
-            × (kind.list list ≡ [] → 0 < cap)
-        spills cap wider =
-            let way = way_behind (is.numbered mesh x p linked) j list number opened listed in (
-              way.listed,
-              λ empty. let room = (way.alone empty some).0 in omega (arith, room, wider),
-            )
-
-        -- and leaves
-        pub spilled : (link : LinkView) → other.list link ≡ other.list list → link.room ≡ list.room
-            → (these : Fronts A) → kind.list link ≡ whole true (front p) (kind.list list)
-            → IsFiled tray (tray_of (kind.here sets) these) p true true (front p)
-            → AreSeenAlike mesh arrivals lists fronts (set lists j link) (fronts_with these)
-            × IsPortSpilled kind other (inboxes_by arrivals fronts) (inboxes_by arrivals (fronts_with these)) x p
-        spilled link same room these all placed =
-            let set_now = fronts_set filed i d (kind.with_fronts f these) ∙ ap (λ (a : Arrivals).
-            set (inboxes_by arrivals fronts) i (inbox_by a (kind.with_fronts f these))) (sym (is.here_kept sets)) in
-            let links = links_are (rw length-set filed.all) set_now
-            (moved (is.numbered mesh x p linked) j list number opened listed link same room these some placed all) in (
-              record { sound = links.filed; same = ap (λ (l : LinksView). l.states) (links.seen ∙ sym seen) },
-              subst (λ (boxes : List Inbox). IsPortSpilled kind other (inboxes_by arrivals fronts) boxes x p)
-                  (sym set_now)
-                  (port_put is call read p (box (kind.here sets) these) (is.put_tray sets f (kind.here sets) these)
-                  (front p) placed (is.put_other sets f (kind.here sets) these)),
-            )
+            pub spilled : kind.list link ≡ whole (has tray.here p) (front p) (kind.list list)
+                → AreSeenAlike mesh arrivals lists fronts (set lists j link) (fronts_with these)
+                × IsPortSpilled kind other (inboxes_by arrivals fronts) (inboxes_by arrivals (fronts_with these)) x p
+            spilled all =
+                let set_now = fronts_set filed i d (kind.with_fronts f these) ∙ ap (λ (a : Arrivals).
+                set (inboxes_by arrivals fronts) i (inbox_by a (kind.with_fronts f these))) (sym (is.here_kept sets)) in
+                let links = links_are (rw length-set filed.all) set_now (moved all) in (
+                  record { sound = links.filed; same = ap (λ (l : LinksView). l.states) (links.seen ∙ sym seen) },
+                  subst (λ (boxes : List Inbox). IsPortSpilled kind other (inboxes_by arrivals fronts) boxes x p)
+                      (sym set_now)
+                      (port_put is call read p (box (kind.here sets) these) (is.put_tray sets f (kind.here sets) these)
+                      (has tray.here p) (front p) placed (is.put_other sets f (kind.here sets) these)),
+                )

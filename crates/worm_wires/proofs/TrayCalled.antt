@@ -1,20 +1,18 @@
 -- A port's tray, as a call reads and writes it: the node's inbox is read at one place and written there again, and the
 -- list behind it likewise.
-use Rattle.std.proofs.Common.{◌≡◌, ℕ, ◌<◌, Bool, true, List, length, get_or, set, Option, Some, refl}
+use Rattle.std.proofs.Common.{◌≡◌, ℕ, ◌<◌, Bool, List, length, get_or, set, Option, Some, refl}
 use Rattle.std.proofs.Common.{arith, ap, sym, subst, ◌∙◌}
-use Rattle.std.specs.Prelude.{IsSome, slice_get}
+use Rattle.std.specs.Prelude.{slice_get}
 use Rattle.std.proofs.lemmas.List.{get_or_default, set-get_or}
 use Rattle.worm_flit.specs.SmallSet.{has}
-use Rattle.worm_mesh.specs.Address.{neighbour_of}
-use Rattle.worm_wires.specs.Arrivals.{LinksView, has_front, on_link, state_at, with_state}
+use Rattle.worm_wires.specs.Arrivals.{LinksView, on_link, state_at, with_state}
 use Rattle.worm_wires.specs.Inbox.{AreInboxes, Inbox, IsFiled, IsWay, IsWayOf, Kind, Tray, front_of, inbox_at, links_by}
 use Rattle.worm_wires.specs.Inbox.{room_of, whole}
 use Rattle.worm_wires.specs.Links.{LinkView, blank_link}
 use Rattle.worm_wires.proofs.Called.{AreSeen, IsCall, inbox_is, list_is}
 use Rattle.worm_wires.proofs.EachKind.{IsKind, IsWritten}
 use Rattle.worm_wires.proofs.TraysWritten.{IsWrite}
-use Rattle.worm_wires.proofs.TraysSeen.{neighbour_some}
-use Rattle.worm_wires.proofs.Ways.{comes_by, first_by, front_by}
+use Rattle.worm_wires.proofs.Ways.{front_by}
 
 module _ {A B : Type 0} {kind : Kind A} {other : Kind B} {put : LinkView → List A → LinkView}
     (is : IsKind kind other put) {mesh : List ℕ} {lists : List LinkView} {inboxes : List Inbox} {now : LinksView}
@@ -22,12 +20,6 @@ module _ {A B : Type 0} {kind : Kind A} {other : Kind B} {put : LinkView → Lis
     (tray_read : kind.tray read ≡ tray) where
   pub tray_is : kind.tray (inbox_at inboxes x) ≡ tray
   tray_is = ap (λ (b : Inbox). kind.tray b) (inbox_is call) ∙ tray_read
-
-  -- a port by which one comes in has a neighbour
-  pub linked_read : (p : ℕ) → p < 8 → has tray.here p ≡ true → IsSome (neighbour_of mesh x p)
-  linked_read p p_in here =
-      neighbour_some is mesh lists inboxes call.sound x call.node p p_in
-      (ap (λ (t : Tray A). has t.here p) tray_is ∙ here)
 
   module _ {p k : ℕ} (by : kind.link mesh x p ≡ Some k) where
     there : k < length lists
@@ -72,17 +64,6 @@ module _ {A B : Type 0} {kind : Kind A} {other : Kind B} {put : LinkView → Lis
           ≡ whole (has tray.here p) (slice_get tray.front p) (kind.list list)
       seen_read = seen_is ∙ ap (λ (l : LinkView). whole (has tray.here p) (slice_get tray.front p) (kind.list l))
           (sym the_list)
-
-      -- where one comes in, what is seen is a list with a front
-      pub first_read : has tray.here p ≡ true
-          → (has_front (whole true (slice_get tray.front p) (kind.list list)) ≡ true)
-          × (slice_get (whole true (slice_get tray.front p) (kind.list list)) 0 ≡ slice_get tray.front p)
-      first_read some =
-          let here = subst (λ (b : Bool). IsWay b (has tray.more p) (slice_get tray.front p) (kind.list list) list.room)
-          some way_read in (
-            comes_by true (has tray.more p) (slice_get tray.front p) (kind.list list) list.room here,
-            first_by true (has tray.more p) (slice_get tray.front p) (kind.list list) list.room here refl,
-          )
 
       -- both are written
       module _ (box : Inbox) {tray_now : Tray A} (box_is : kind.tray box ≡ tray_now)

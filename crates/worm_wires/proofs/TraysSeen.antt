@@ -1,9 +1,8 @@
 -- What is seen to come in by each port, of flits and of credits alike.
-use Rattle.std.proofs.Common.{◌≡◌, ℕ, ◌<◌, Bool, true, List, [], Option, Some, None, refl}
-use Rattle.std.proofs.Common.{arith, ap, sym, ◌∙◌}
-use Rattle.std.specs.Prelude.{IsSome, slice_get}
+use Rattle.std.proofs.Common.{◌≡◌, ℕ, ◌<◌, Bool, List, [], Option, Some, None, refl}
+use Rattle.std.proofs.Common.{ap, sym, ◌∙◌}
+use Rattle.std.specs.Prelude.{slice_get}
 use Rattle.worm_flit.specs.SmallSet.{has}
-use Rattle.worm_mesh.specs.Address.{neighbour_of}
 use Rattle.worm_wires.specs.Arrivals.{AreFronts, has_front, on_link}
 use Rattle.worm_wires.specs.Inbox.{AreInboxes, Inbox, IsTray, IsWay, Kind, come, inbox_at, links_by, room_of, whole}
 use Rattle.worm_wires.specs.Links.{LinkView}
@@ -15,12 +14,6 @@ none_come : {A : Type 0} (list : LinkView → List A) (links : List LinkView) (h
     → whole here front (on_link list links n) ≡ []
 none_come list links here more front None e way = unlinked here more front way
 none_come list links here more front (Some k) e way = absurd (cc)
-
--- where something comes in there is a link
-some_link : {A : Type 0} (list : LinkView → List A) (links : List LinkView) (here more : Bool) (front : Option A)
-    (n : Option ℕ) → IsWay here more front (on_link list links n) (room_of links n) → here ≡ true → IsSome n
-some_link list links here more front None way some = absurd (omega (arith, (way.alone refl some).0))
-some_link list links here more front (Some k) way some = refl
 
 module _ {A B : Type 0} {kind : Kind A} {other : Kind B} {put : LinkView → List A → LinkView}
     (is : IsKind kind other put) (mesh : List ℕ) (links : List LinkView) (inboxes : List Inbox)
@@ -44,12 +37,3 @@ module _ {A B : Type 0} {kind : Kind A} {other : Kind B} {put : LinkView → Lis
       ∙ comes_by (has (kind.tray (inbox_at inboxes x)).here p) (has (kind.tray (inbox_at inboxes x)).more p)
       (slice_get (kind.tray (inbox_at inboxes x)).front p) (on_link kind.list links (kind.link mesh x p))
       (room_of links (kind.link mesh x p)) (way_at p p_in))
-
-  -- a port by which one comes in has a neighbour
-  pub neighbour_some : (p : ℕ) → p < 8 → has (kind.tray (inbox_at inboxes x)).here p ≡ true
-      → IsSome (neighbour_of mesh x p)
-  neighbour_some p p_in here =
-      is.links.linked mesh x p
-      (some_link kind.list links (has (kind.tray (inbox_at inboxes x)).here p)
-      (has (kind.tray (inbox_at inboxes x)).more p) (slice_get (kind.tray (inbox_at inboxes x)).front p)
-      (kind.link mesh x p) (way_at p p_in) here)

@@ -1,5 +1,5 @@
 -- What is on one way of a link, by an inbox's port and the list behind it.
-use Rattle.std.proofs.Common.{◌≡◌, ℕ, ◌<◌, Bool, true, false, cond, List, [], ◌∷◌, ◌++◌, length, Option, Some, None}
+use Rattle.std.proofs.Common.{◌≡◌, ℕ, ◌<◌, ◌≤◌, Bool, true, false, cond, List, [], ◌∷◌, ◌++◌, length, Option, Some, None}
 use Rattle.std.proofs.Common.{refl, subst, zero, suc, get_or}
 use Rattle.std.proofs.Common.{arith, ap, sym, ◌∙◌, drop}
 use Rattle.std.specs.Prelude.{slice_get, IsSome}
@@ -138,10 +138,10 @@ one_pushed false front now [] x empty none is = rw is refl
 one_pushed false front now (y ∷ ys) x empty none is = absurd (cc)
 
 -- and one that comes behind others
-pub one_behind : {A : Type 0} (now : Option A) (list : List A) (x : A) → whole true now (list ++ x ∷ [])
-    ≡ list ++ x ∷ []
-one_behind now [] x = refl
-one_behind now (y ∷ ys) x = refl
+pub one_behind : {A : Type 0} (here : Bool) (now : Option A) (list : List A) (x : A)
+    → whole here now (list ++ x ∷ []) ≡ list ++ x ∷ []
+one_behind here now [] x = refl
+one_behind here now (y ∷ ys) x = refl
 
 got_at : {A : Type 0} (xs : List A) (p : ℕ) (d : A) → IsSome (slice_get xs p) → slice_get xs p ≡ Some (get_or xs p d)
 got_at [] p d some = absurd (cc)
@@ -172,23 +172,38 @@ alone_at true more (Some x) [] room way none (suc i) below row p j d at is = abs
 alone_at true more (Some x) [] room way none zero below row p j d at is = is ∙ got row p j d at (rw (← is) refl)
 
 -- with all that comes in put into its list
-pub spilled_way : {A : Type 0} (more : Bool) (front : Option A) (list : List A) (room : ℕ)
-    → IsWay true more front list room
-    → IsWay true true front (whole true front list) room
-spilled_way more None [] room way = let some = (way.alone refl refl).1 in absurd (cc)
-spilled_way more (Some x) [] room way = record {
-  listed = refl;
-  first = λ some. (refl, refl);
-  alone = λ empty some. absurd (cc);
-}
-spilled_way more front (x ∷ xs) room way = record {
-  listed = refl;
-  first = λ some. way.first refl;
-  alone = λ empty some. absurd (cc);
+pub spilled_way : {A : Type 0} (here more : Bool) (front now : Option A) (list : List A) (room : ℕ)
+    → IsWay here more front list room → (here ≡ true → now ≡ front)
+    → IsWay here here now (whole here front list) room
+    × (whole here now (whole here front list) ≡ whole here front list)
+spilled_way false more front now [] room way same = (way_none now [] room refl, refl)
+spilled_way true more None now [] room way same = let some = (way.alone refl refl).1 in absurd (cc)
+spilled_way true more (Some x) now [] room way same = (
+  record { listed = refl; first = λ some. (refl, same refl); alone = λ empty some. absurd (cc) },
+  refl,
+)
+spilled_way here more front now (x ∷ xs) room way same =
+    let first = way.first refl in (
+      record {
+        listed = first.0;
+        first = λ some. (first.0, same first.0 ∙ first.1);
+        alone = λ empty some. absurd (cc);
+      },
+      refl,
+    )
+
+-- with more room
+pub way_wider : {A : Type 0} {here more : Bool} {front : Option A} {list : List A} {room : ℕ} (wider : ℕ)
+    → IsWay here more front list room → room ≤ wider → IsWay here more front list wider
+way_wider wider way fits = record {
+  listed = way.listed;
+  first = way.first;
+  alone = λ empty some. let alone = way.alone empty some in (omega (arith, alone.0, fits), alone.1);
 }
 
-pub whole_twice : {A : Type 0} (front : Option A) (list : List A)
-    → whole true front (whole true front list) ≡ whole true front list
-whole_twice None [] = refl
-whole_twice (Some x) [] = refl
-whole_twice front (x ∷ xs) = refl
+-- what is in the inbox alone finds room in the list
+pub waits : {A : Type 0} (here more : Bool) (front : Option A) (list : List A) (room : ℕ)
+    → IsWay here more front list room → (here ≡ more → ⊥) → length list < room
+waits true more front [] room way alone = (way.alone refl refl).0
+waits false more front [] room way alone = absurd (alone (sym way.listed))
+waits here more front (x ∷ xs) room way alone = absurd (alone ((way.first refl).0 ∙ sym way.listed))

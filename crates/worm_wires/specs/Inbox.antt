@@ -1,6 +1,6 @@
 -- What comes in next at the mesh ports of a node, and what is on a link by that and by the lists behind it (Dally and
 -- Towles, chapter 13).
-use Rattle.std.specs.Prelude.{ℕ, ◌≡◌, ◌*◌, ◌<◌, ◌++◌, ◌∷◌, Bool, true, cond, List, [], length, slice_get}
+use Rattle.std.specs.Prelude.{ℕ, ◌≡◌, ◌+◌, ◌*◌, ◌<◌, ◌++◌, ◌∷◌, Bool, true, cond, List, [], length, slice_get}
 use Rattle.std.specs.Prelude.{slice_index_or, Option, None, Some, IsSome, option_to_list, zero, suc}
 use Rattle.std.specs.Simd.Lanes.{zip2}
 use Rattle.worm_flit.specs.declared.Flit.{Flit}
@@ -179,15 +179,9 @@ pub record AreSpilled (inbox : Inbox) (ports : ℕ) : Type 0 where
   pub flits : IsSpilled inbox.flits ports
   pub credits : IsSpilled inbox.credits ports
 
--- what a port's tray has of one kind is in the list of its link now; else nothing has changed
-pub record IsPortSpilled {A B : Type 0} (kind : Kind A) (other : Kind B) (old new : List Inbox) (x p : ℕ)
-    : Type 0 where
-  pub here : has (kind.tray (inbox_at new x)).here p ≡ has (kind.tray (inbox_at new x)).more p
-  pub comes : (q : ℕ) → q < 8 → (q ≡ p → ⊥)
-      → has (kind.tray (inbox_at new x)).here q ≡ has (kind.tray (inbox_at old x)).here q
-  pub listed : (q : ℕ) → q < 8 → (q ≡ p → ⊥)
-      → has (kind.tray (inbox_at new x)).more q ≡ has (kind.tray (inbox_at old x)).more q
-  pub kept : other.tray (inbox_at new x) ≡ other.tray (inbox_at old x)
+-- what comes in at a node by a port is in the lists of its links now, and else nothing has changed
+pub record ArePortsSpilled (old new : List Inbox) (x p : ℕ) : Type 0 where
+  pub more : AreSpilled (inbox_at old x) p → AreSpilled (inbox_at new x) (p + 1)
   pub others : (y : ℕ) → (y ≡ x → ⊥) → inbox_at new y ≡ inbox_at old y
 
 -- the same of inboxes that stand in two places

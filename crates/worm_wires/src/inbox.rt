@@ -5,7 +5,7 @@ ghost use Rattle.std.specs.Prelude.{true, Some, false};
 ghost use Rattle.std.specs.VecDeque.{deque_capacity};
 ghost use Rattle.worm_flit.specs.SmallSet.{has};
 ghost use Rattle.worm_wires.specs.Arrivals.{has_front};
-ghost use Rattle.worm_wires.specs.Inbox.{IsFiled, front_of, tray_of, whole};
+ghost use Rattle.worm_wires.specs.Inbox.{IsFiled, IsWayOf, front_of, tray_of, whole};
 
 use std::alloc::{AllocError, Global};
 use std::collections::VecDeque;
@@ -101,16 +101,15 @@ impl<T: Copy> Fronts<T> {
     }
 
     /// Moves what comes in by the port into the list of its link, where it is in the inbox alone.
-    pub(crate) fn spill(&mut self, port: u8, list: &mut VecDeque<T>)
+    pub(crate) fn spill(&mut self, here: &SmallSet, port: u8, list: &mut VecDeque<T>)
         requires port { port < 6 }
-        requires listed { has self.old.more port ≡ has_front list.old.items }
-        requires room { list.old.items ≡ [] → 0 < deque_capacity list.old }
-        ensures list { list.new.items ≡ whole true (slice_get self.old.front port) list.old.items }
+        requires way { IsWayOf (tray_of here.now self.old) port list.old.items (deque_capacity list.old) }
+        ensures list { list.new.items ≡ whole (has here.now port) (slice_get self.old.front port) list.old.items }
         ensures room { deque_capacity list.new ≡ deque_capacity list.old }
-        ensures filed { (here : ℕ) → has here port ≡ true → IsFiled (tray_of here self.old) (tray_of here self.new)
-            port true true (slice_get self.old.front port) }
+        ensures filed { IsFiled (tray_of here.now self.old) (tray_of here.now self.new) port (has here.now port)
+            (has here.now port) (slice_get self.old.front port) }
     {
-        if self.more.contains(port) {
+        if here.contains(port) == self.more.contains(port) {
             return;
         }
         list.push_back_reserved(self.front[usize::from(port)]);
@@ -118,17 +117,18 @@ impl<T: Copy> Fronts<T> {
     }
 
     /// Puts one more behind what comes in by the port.
-    pub(crate) fn push_listed(&mut self, port: u8, list: &mut VecDeque<T>, item: T)
+    pub(crate) fn push_listed(&mut self, here: &SmallSet, port: u8, list: &mut VecDeque<T>, item: T)
         requires port { port < 6 }
-        requires listed { has self.old.more port ≡ has_front list.old.items }
-        requires room { length (whole true (slice_get self.old.front port) list.old.items)
+        requires way { IsWayOf (tray_of here.now self.old) port list.old.items (deque_capacity list.old) }
+        requires room { length (whole (has here.now port) (slice_get self.old.front port) list.old.items)
             < deque_capacity list.old }
-        ensures list { list.new.items ≡ whole true (slice_get self.old.front port) list.old.items ++ item ∷ [] }
+        ensures list { list.new.items
+            ≡ whole (has here.now port) (slice_get self.old.front port) list.old.items ++ item ∷ [] }
         ensures room { deque_capacity list.new ≡ deque_capacity list.old }
-        ensures filed { (here : ℕ) → has here port ≡ true → IsFiled (tray_of here self.old) (tray_of here self.new)
-            port true true (slice_get self.old.front port) }
+        ensures filed { IsFiled (tray_of here.now self.old) (tray_of here.now self.new) port (has here.now port)
+            (has here.now port) (slice_get self.old.front port) }
     {
-        self.spill(port, list);
+        self.spill(here, port, list);
         list.push_back_reserved(item);
     }
 

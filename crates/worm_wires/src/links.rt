@@ -6,8 +6,8 @@ ghost use Rattle.worm_mesh.specs.Address.{AreRadices, neighbour_of};
 ghost use Rattle.worm_mesh.specs.Links.{link_count};
 ghost use Rattle.worm_wires.specs.Arrivals.{AreFronts, LinksView, credits_of, credits_to, flits_of};
 ghost use Rattle.worm_wires.specs.Arrivals.{flits_to, number_into, number_out, state_at, with_state};
-ghost use Rattle.worm_wires.specs.Inbox.{AreFiled, AreSeenAlike, AreSpilled, IsInbox, IsPortSpilled, inbox_at};
-ghost use Rattle.worm_wires.specs.Inbox.{inbox_by, inboxes_by, of_credits, of_flits};
+ghost use Rattle.worm_wires.specs.Inbox.{ArePortsSpilled, AreFiled, AreSeenAlike, AreSpilled, IsInbox, inbox_at};
+ghost use Rattle.worm_wires.specs.Inbox.{inbox_by, inboxes_by};
 
 use crate::LinkState;
 use crate::inbox::{Arrivals, Inboxes, NodeFronts};
@@ -71,7 +71,7 @@ fn inbox_of(wiring: &Wiring, lists: &[LinkState], node: u8) -> (Arrivals, NodeFr
     (arrivals, fronts)
 }
 
-fn spill_flits(
+fn spill_port(
     wiring: &Wiring,
     arrivals: &[Arrivals; 256],
     lists: &mut Vec<LinkState>,
@@ -83,39 +83,18 @@ fn spill_flits(
     requires filed { AreFiled wiring.now lists.old.items arrivals.now fronts.old.items }
     ensures kept { AreSeenAlike wiring.now arrivals.now lists.old.items fronts.old.items lists.new.items
         fronts.new.items }
-    ensures spilled { IsPortSpilled of_flits of_credits (inboxes_by arrivals.now fronts.old.items)
+    ensures spilled { ArePortsSpilled (inboxes_by arrivals.now fronts.old.items)
         (inboxes_by arrivals.now fronts.new.items) node port }
 {
-    let at = usize::from(node);
-    let here = &mut fronts[at];
-    if arrivals[at].flits.contains(port) {
-        let links = wiring.links_beyond(node, port);
-        let link = &mut lists[usize::from(links.into)];
-        here.flits.spill(port, &mut link.flits);
-    }
-}
-
-fn spill_credits(
-    wiring: &Wiring,
-    arrivals: &[Arrivals; 256],
-    lists: &mut Vec<LinkState>,
-    fronts: &mut Vec<NodeFronts>,
-    node: u8,
-    port: u8,
-)
-    requires port { port < 6 }
-    requires filed { AreFiled wiring.now lists.old.items arrivals.now fronts.old.items }
-    ensures kept { AreSeenAlike wiring.now arrivals.now lists.old.items fronts.old.items lists.new.items
-        fronts.new.items }
-    ensures spilled { IsPortSpilled of_credits of_flits (inboxes_by arrivals.now fronts.old.items)
-        (inboxes_by arrivals.now fronts.new.items) node port }
-{
-    let at = usize::from(node);
-    let here = &mut fronts[at];
-    if arrivals[at].credits.contains(port) {
-        let links = wiring.links_beyond(node, port);
-        let link = &mut lists[usize::from(links.out)];
-        here.credits.spill(port, &mut link.credits);
+    if let Some(links) = wiring.links_at(node, port) {
+        let at = usize::from(node);
+        let come = &arrivals[at];
+        let into = &mut lists[usize::from(links.into)];
+        fronts[at].flits.spill(&come.flits, port, &mut into.flits);
+        let out = &mut lists[usize::from(links.out)];
+        fronts[at]
+            .credits
+            .spill(&come.credits, port, &mut out.credits);
     }
 }
 
@@ -134,8 +113,7 @@ fn spill_node(
         ≡ inbox_at (inboxes_by arrivals.now fronts.old.items) y }
 {
     for port in 0..6u8 {
-        spill_flits(wiring, arrivals, lists, fronts, node, port);
-        spill_credits(wiring, arrivals, lists, fronts, node, port);
+        spill_port(wiring, arrivals, lists, fronts, node, port);
     }
 }
 
@@ -320,7 +298,7 @@ impl Links {
         }
         let number = self.wiring.links_beyond(node, port).out;
         let link = &mut self.lists[usize::from(number)];
-        fronts.push_listed(entered, &mut link.flits, flit);
+        fronts.push_listed(there, entered, &mut link.flits, flit);
     }
 
     /// Puts a flit from another worker's node at the end of the link into this port, on which there is none.
@@ -388,7 +366,7 @@ impl Links {
         }
         let number = self.wiring.links_beyond(node, port).into;
         let link = &mut self.lists[usize::from(number)];
-        fronts.push_listed(entered, &mut link.credits, vc);
+        fronts.push_listed(there, entered, &mut link.credits, vc);
     }
 
     /// Puts a credit of the channel at the end of the credits of the link out of this port, of which there is none.

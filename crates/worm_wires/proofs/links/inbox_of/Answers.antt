@@ -36,34 +36,20 @@ loop-port-preserved c =
           ∙ ap (λ (n : Option ℕ). slice_get (credits_of c.args.lists.now n) 0) c.link_out.ensures.value) inv.credits;
     }
 
-pub returns-clause-inbox : goal.returns-clause-inbox
-returns-clause-inbox c =
+pub returns : goal.returns
+returns c =
     let inv = c.loop-port.invariant in
     let few : 2 * length c.args.wiring.now ≤ 6 =
     omega (arith, c.terminal-terminal.ensures.value, c.terminal-terminal.ensures.bound) in
+    let flits = tray_filled of_flits c.args.wiring.now c.args.lists.now c.args.node
+    (tray_of c.loop-port.arrivals.flits c.loop-port.fronts.flits) c.loop-port.port c.loop-port-test.false
+    c.loop-port.auto.port-end (λ p above. in_none c.args.wiring.now c.args.node p (omega (arith, few, above)))
+    inv.flits in
+    let credits = tray_filled of_credits c.args.wiring.now c.args.lists.now c.args.node
+    (tray_of c.loop-port.arrivals.credits c.loop-port.fronts.credits) c.loop-port.port c.loop-port-test.false
+    c.loop-port.auto.port-end (λ o above. out_none c.args.wiring.now c.args.node o (omega (arith, few, above)))
+    inv.credits in
     record {
-      flits = (tray_filled of_flits c.args.wiring.now c.args.lists.now c.args.node
-          (tray_of c.loop-port.arrivals.flits c.loop-port.fronts.flits) c.loop-port.port c.loop-port-test.false
-          c.loop-port.auto.port-end
-          (λ p above. in_none c.args.wiring.now c.args.node p (omega (arith, few, above))) inv.flits).0;
-      credits = (tray_filled of_credits c.args.wiring.now c.args.lists.now c.args.node
-          (tray_of c.loop-port.arrivals.credits c.loop-port.fronts.credits) c.loop-port.port c.loop-port-test.false
-          c.loop-port.auto.port-end
-          (λ o above. out_none c.args.wiring.now c.args.node o (omega (arith, few, above))) inv.credits).0;
-    }
-
-pub returns-clause-spilled : goal.returns-clause-spilled
-returns-clause-spilled c =
-    let inv = c.loop-port.invariant in
-    let few : 2 * length c.args.wiring.now ≤ 6 =
-    omega (arith, c.terminal-terminal.ensures.value, c.terminal-terminal.ensures.bound) in
-    record {
-      flits = (tray_filled of_flits c.args.wiring.now c.args.lists.now c.args.node
-          (tray_of c.loop-port.arrivals.flits c.loop-port.fronts.flits) c.loop-port.port c.loop-port-test.false
-          c.loop-port.auto.port-end
-          (λ p above. in_none c.args.wiring.now c.args.node p (omega (arith, few, above))) inv.flits).1;
-      credits = (tray_filled of_credits c.args.wiring.now c.args.lists.now c.args.node
-          (tray_of c.loop-port.arrivals.credits c.loop-port.fronts.credits) c.loop-port.port c.loop-port-test.false
-          c.loop-port.auto.port-end
-          (λ o above. out_none c.args.wiring.now c.args.node o (omega (arith, few, above))) inv.credits).1;
+      inbox = record { flits = flits.0; credits = credits.0 };
+      spilled = record { flits = flits.1; credits = credits.1 };
     }

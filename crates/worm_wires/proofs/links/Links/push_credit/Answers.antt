@@ -56,25 +56,25 @@ push_listed-requires c = (
     pushes credits_kind c.self.invariant c.self.view_is c.from-at.ensures (omega arith) c.index-self-at.result
         c.index_mut.result.now c.index_mut.ensures.value (by (goal.at.push_listed-requires c).After-contains)
         c.from.result _ (number (goal.at.push_listed-requires c).After-from) c.link.view_is
-        c.index_mut-link.ensures.value (sym c.contains.ensures ∙ c.if-not-contains.false) c.requires.room
+        c.index_mut-link.ensures.value c.requires.room
         (deque_capacity c.link.inside.credits) (omega arith),
   ),
 )
 
 pub invariant_of-self-2 : goal.invariant_of-self-2
 invariant_of-self-2 c =
-    let some = sym c.contains.ensures ∙ c.if-not-contains.false in
     (pushed_behind credits_kind c.self.invariant c.self.view_is c.from-at.ensures (omega arith) c.index-self-at.result
     c.index_mut.result.now c.index_mut.ensures.value (by (goal.at.invariant_of-self-2 c).After-contains) c.from.result _
     (number (goal.at.invariant_of-self-2 c).After-from) c.link.view_is c.index_mut-link.ensures.value _ refl
     (ap (λ (n : ℕ). min (deque_capacity c.link.inside.flits) n) c.push_listed.ensures.room) c.push_listed.new.self
-    some (c.push_listed.ensures.filed _ some) c.args.vc c.push_listed.ensures.list).filed
+    c.push_listed.ensures.filed c.args.vc (sym c.contains.ensures ∙ c.if-not-contains.false)
+    c.push_listed.ensures.list).filed
 
 pub returns : goal.returns
 returns c =
-    let some = sym c.contains.ensures ∙ c.if-not-contains.false in
     (pushed_behind credits_kind c.self.invariant c.self.view_is c.from-at.ensures (omega arith) c.index-self-at.result
     c.index_mut.result.now c.index_mut.ensures.value (by (goal.at.returns c).After-contains) c.from.result _
     (number (goal.at.returns c).After-from) c.link.view_is c.index_mut-link.ensures.value _ refl
     (ap (λ (n : ℕ). min (deque_capacity c.link.inside.flits) n) c.push_listed.ensures.room) c.push_listed.new.self
-    some (c.push_listed.ensures.filed _ some) c.args.vc c.push_listed.ensures.list).seen
+    c.push_listed.ensures.filed c.args.vc (sym c.contains.ensures ∙ c.if-not-contains.false)
+    c.push_listed.ensures.list).seen
