@@ -37,7 +37,8 @@ module _ {mesh : List ℕ} {lists : List LinkView} {inboxes : List Inbox} {now :
       → IsKind kind other put → AreFronts (λ p. on_link kind.list now.states (kind.link now.mesh x p))
       (kind.tray read).here
   come_read {kind = kind} is =
-      subst (λ (l : LinksView). AreFronts (λ p. on_link kind.list l.states (kind.link l.mesh x p)) (kind.tray read).here)
+      subst
+      (λ (l : LinksView). AreFronts (λ p. on_link kind.list l.states (kind.link l.mesh x p)) (kind.tray read).here)
       call.seen
       (subst (λ (b : Inbox). AreFronts (λ p. on_link kind.list (links_by mesh lists inboxes) (kind.link mesh x p))
       (kind.tray b).here) inbox_is (set_seen is mesh lists inboxes call.sound x call.node))

@@ -225,7 +225,8 @@ module _ {A B : Type 0} {kind : Kind A} {other : Kind B} {put : LinkView → Lis
                 (with_state now k (put (state_at now k) fs))
             stayed =
                 both_written is call read by j list number there (box (kind.here sets) these)
-                (is.put_tray sets f (kind.here sets) these) (is.put_other sets f (kind.here sets) these) (has tray.here p)
+                (is.put_tray sets f (kind.here sets) these) (is.put_other sets f (kind.here sets) these)
+                (has tray.here p)
                 (has tray.here p) (front p) placed link same room
 
             pub pushed_behind : (item : A) → has tray.here p ≡ true

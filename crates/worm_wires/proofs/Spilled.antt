@@ -1,5 +1,6 @@
 -- Ports and nodes whose lists have all that comes in.
-use Rattle.std.proofs.Common.{◌≡◌, ◌≢◌, ℕ, ◌+◌, ◌<◌, Bool, refl, inl, inr, List, set, Option, Some, None, arith, ap, sym}
+use Rattle.std.proofs.Common.{◌≡◌, ◌≢◌, ℕ, ◌+◌, ◌<◌, Bool, refl, inl, inr, List, set, Option, Some, None}
+use Rattle.std.proofs.Common.{arith, ap, sym}
 use Rattle.std.proofs.Common.{below_more, subst, ◌∙◌}
 use Rattle.std.specs.Prelude.{IsSome, option_map, slice_get}
 use Rattle.std.proofs.lemmas.List.{get_or-set_other, get_or-set_same}
@@ -34,10 +35,10 @@ pub port_put : {A B : Type 0} {kind : Kind A} {other : Kind B} {put : LinkView �
     → kind.tray read ≡ tray → (p : ℕ) (box : Inbox) → kind.tray box ≡ tray_now → (here : Bool) (front : Option A)
     → IsFiled tray tray_now p here here front → other.tray box ≡ other.tray read
     → IsPortSpilled kind other inboxes (set inboxes i box) x p
-port_put {kind = kind} {other = other} is {inboxes = inboxes} {x = x} call tray_read p box box_is here front filed kept =
+port_put {kind = kind} {other = other} is {inboxes = inboxes} {x = x} call tray_read p box it here front filed kept =
     let this : inbox_at (set inboxes x box) x ≡ box =
     get_or-set_same inboxes x box no_inbox (omega (arith, call.sound.nodes, call.node)) in
-    let new = ap (λ (b : Inbox). kind.tray b) this ∙ box_is in
+    let new = ap (λ (b : Inbox). kind.tray b) this ∙ it in
     let old = tray_is is call tray_read in
     subst (λ (v : ℕ). IsPortSpilled kind other inboxes (set inboxes v box) x p) (sym call.at)
     record {
@@ -47,7 +48,7 @@ port_put {kind = kind} {other = other} is {inboxes = inboxes} {x = x} call tray_
           ∙ ap (λ (t : Tray _). has t.here q) (sym old);
       listed = λ q q_in away. ap (λ (t : Tray _). has t.more q) new ∙ filed.listed.elsewhere q q_in away
           ∙ ap (λ (t : Tray _). has t.more q) (sym old);
-      kept = ap (λ (b : Inbox). other.tray b) this ∙ kept ∙ ap (λ (b : Inbox). other.tray b) (sym (inbox_is call));
+      kept = ap (λ (b : Inbox). other.tray b) this ∙ kept ∙ ap (λ (b : Inbox). other.tray b) (sym (init call));
       others = λ y away. get_or-set_other inboxes x y box no_inbox away;
     }
 

@@ -1,5 +1,6 @@
 -- What is on one way of a link, by an inbox's port and the list behind it.
-use Rattle.std.proofs.Common.{◌≡◌, ℕ, ◌<◌, ◌≤◌, Bool, true, false, cond, List, [], ◌∷◌, ◌++◌, length, Option, Some, None}
+use Rattle.std.proofs.Common.{◌≡◌, ℕ, ◌<◌, ◌≤◌, Bool, true, false, cond, List, [], ◌∷◌, ◌++◌, length}
+use Rattle.std.proofs.Common.{Option, Some, None}
 use Rattle.std.proofs.Common.{refl, subst, zero, suc, get_or}
 use Rattle.std.proofs.Common.{arith, ap, sym, ◌∙◌, drop}
 use Rattle.std.specs.Prelude.{slice_get, IsSome}

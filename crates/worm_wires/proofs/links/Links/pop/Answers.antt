@@ -7,10 +7,12 @@ pub invariant_of-self : goal.invariant_of-self
 invariant_of-self c =
     (popped_alone flits_kind c.self.invariant c.self.view_is c.from-at.ensures (omega arith)
     c.index-self-at.result c.index.result.now c.index.ensures
-    (numbered flits_kind c.args.node c.args.port c.self.view_is c.requires) (sym c.contains.ensures ∙ c.if-not-contains.true) c.put.ensures).filed
+    (numbered flits_kind c.args.node c.args.port c.self.view_is c.requires)
+    (sym c.contains.ensures ∙ c.if-not-contains.true) c.put.ensures).filed
 
 pub returns-then-not-contains : goal.returns-then-not-contains
 returns-then-not-contains c =
     (popped_alone flits_kind c.self.invariant c.self.view_is c.from-at.ensures (omega arith)
     c.index-self-at.result c.index.result.now c.index.ensures
-    (numbered flits_kind c.args.node c.args.port c.self.view_is c.requires) (sym c.contains.ensures ∙ c.if-not-contains.true) c.put.ensures).seen
+    (numbered flits_kind c.args.node c.args.port c.self.view_is c.requires)
+    (sym c.contains.ensures ∙ c.if-not-contains.true) c.put.ensures).seen
