@@ -48,7 +48,7 @@ port_put {kind = kind} {other = other} is {inboxes = inboxes} {x = x} call tray_
           ∙ ap (λ (t : Tray _). has t.here q) (sym old);
       listed = λ q q_in away. ap (λ (t : Tray _). has t.more q) new ∙ filed.listed.elsewhere q q_in away
           ∙ ap (λ (t : Tray _). has t.more q) (sym old);
-      kept = ap (λ (b : Inbox). other.tray b) this ∙ kept ∙ ap (λ (b : Inbox). other.tray b) (sym (init call));
+      kept = ap (λ (b : Inbox). other.tray b) this ∙ kept ∙ ap (λ (b : Inbox). other.tray b) (sym (inbox_is call));
       others = λ y away. get_or-set_other inboxes x y box no_inbox away;
     }
 
