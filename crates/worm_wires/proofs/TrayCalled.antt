@@ -6,13 +6,12 @@ use Rattle.std.specs.Prelude.{slice_get}
 use Rattle.std.proofs.lemmas.List.{get_or_default, set-get_or}
 use Rattle.worm_flit.specs.SmallSet.{has}
 use Rattle.worm_wires.specs.Arrivals.{LinksView, on_link, state_at, with_state}
-use Rattle.worm_wires.specs.Inbox.{AreInboxes, Inbox, IsFiled, IsWay, IsWayOf, Kind, Tray, front_of, inbox_at, links_by}
+use Rattle.worm_wires.specs.Inbox.{AreInboxes, Inbox, IsFiled, IsWay, IsWayOf, Kind, Tray, inbox_at, links_by}
 use Rattle.worm_wires.specs.Inbox.{room_of, whole}
 use Rattle.worm_wires.specs.Links.{LinkView, blank_link}
 use Rattle.worm_wires.proofs.Called.{AreSeen, IsCall, inbox_is, list_is}
 use Rattle.worm_wires.proofs.EachKind.{IsKind, IsWritten}
 use Rattle.worm_wires.proofs.TraysWritten.{IsWrite}
-use Rattle.worm_wires.proofs.Ways.{front_by}
 
 module _ {A B : Type 0} {kind : Kind A} {other : Kind B} {put : LinkView → List A → LinkView}
     (is : IsKind kind other put) {mesh : List ℕ} {lists : List LinkView} {inboxes : List Inbox} {now : LinksView}
@@ -41,11 +40,6 @@ module _ {A B : Type 0} {kind : Kind A} {other : Kind B} {put : LinkView → Lis
         ap (λ (l : LinksView). kind.list (state_at l k)) (sym call.seen)
         ∙ is.seen mesh lists inboxes call.sound.radices x p k by
         ∙ (λ t. whole (has (tray_is t).here p) (slice_get (tray_is t).front p) (on_link kind.list lists (by t)))
-
-    pub front_seen : slice_get (kind.list (state_at now k)) 0 ≡ front_of tray p
-    front_seen =
-        ap (λ (l : List A). slice_get l 0) seen_is
-        ∙ front_by (has tray.here p) (has tray.more p) (slice_get tray.front p) _ _ way
 
     pub room_is : (state_at now k).room ≡ (get_or lists k blank_link).room
     room_is =

@@ -179,7 +179,7 @@ pub record AreSpilled (inbox : Inbox) (ports : ℕ) : Type 0 where
   pub flits : IsSpilled inbox.flits ports
   pub credits : IsSpilled inbox.credits ports
 
--- what comes in at a node by a port is in the lists of its links now, and else nothing has changed
+-- the lists of one port more of a node have all that comes in by it, and no other node's inbox has changed
 pub record ArePortsSpilled (old new : List Inbox) (x p : ℕ) : Type 0 where
   pub more : AreSpilled (inbox_at old x) p → AreSpilled (inbox_at new x) (p + 1)
   pub others : (y : ℕ) → (y ≡ x → ⊥) → inbox_at new y ≡ inbox_at old y
