@@ -1,7 +1,7 @@
 //! Runs by several workers: whole reports, and too many workers.
 
 ghost use Rattle.std.specs.Prelude.{IfSome};
-ghost use Rattle.worm_program.specs.Ranges.{InRange};
+ghost use Rattle.worm_words.specs.Ranges.{InRange};
 
 use crate::run::cases::{Ran, answers, gives, is_fault, is_told};
 use std::alloc::Global;
