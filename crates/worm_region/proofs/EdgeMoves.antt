@@ -25,11 +25,10 @@ use Rattle.worm_region.specs.Edges.{Arrives, ComesBack, LetsOut, LetsGive, after
 use Rattle.worm_region.proofs.NodeWritten.{put2_same}
 use Rattle.worm_region.proofs.LinksThere.{feeder, leader}
 use Rattle.worm_region.proofs.GiveAgrees.{owed_bridge}
-use Rattle.worm_region.proofs.OwesToLinks.{owes_less}
 use Rattle.worm_region.proofs.FrameKept.{framed_mesh, router_framed}
 use Rattle.worm_region.proofs.PlacesThere.{net_place, port_below}
 use Rattle.worm_region.proofs.LinkWritten.{link_bridge, link_framed, out_there, credits_there}
-use Rattle.worm_region.proofs.SentToLink.{active_leads, owes_left, sent_bridge}
+use Rattle.worm_region.proofs.SentToLink.{active_leads, sent_bridge}
 use Rattle.worm_region.proofs.SendAgrees.{may_leave, may_send, c_within, enabled_by, to_after}
 use Rattle.worm_region.proofs.AsListed.{buffer_there, owed_there, record_there}
 use Rattle.worm_region.proofs.OwnEdges.{AreElsewhere, let_out_works, arrive_works, back_works, gave_works}
@@ -147,8 +146,7 @@ gave_away s x p v {own} net crosses there owed = by_link (neighbour_of s.mesh x 
       } ≡ record (after (shape s) N (GiveCredit x p v)) { credit_list = N.credit_list } =
       ap (λ (z : Option ℕ). record (gave (shape s) N x p v z) { credit_list = N.credit_list }) (sym e) in (
         record {
-          framed = router_framed s x r.inputs r.outputs net.framed place.node_in (rw length-set refl) refl
-              (owes_less s x p v _ net.framed place (λ some. owed));
+          framed = router_framed s x r.inputs r.outputs net.framed place.node_in (rw length-set refl) refl;
           works =
               subst (λ (n : Network). Works (shape s) own n) (sym is)
               (gave_works (shape s) (framed_mesh s net.framed) N net.works x p v (N.owed x p v - 1) y e (crosses y e));
@@ -190,7 +188,7 @@ left s x p v d {own} net crosses place there (Active o c) (f ∷ rest) e b ready
           let o_in : o ≤ terminal (router_at s x) = rw node.same_mesh port_in in
           let c_in = c_within s x p v o c f rest net place there.0 there.1 e b in
           let r = after_leaving (router_at s x) p v (Some (o, with_channel f c)) in
-          let is = sent_bridge s x p v o c f rest net place there.1 o_in c_in e b in
+          let is = sent_bridge s x p v o c f rest net place o_in c_in e b in
           let to : record (sent_by (shape s) N x p v o c f rest) {
             out = N.out;
           } ≡ record (after (shape s) N (Send x p v)) { out = N.out } =
@@ -207,7 +205,7 @@ left s x p v d {own} net crosses place there (Active o c) (f ∷ rest) e b ready
             record {
               framed =
                   router_framed s x r.inputs r.outputs net.framed place.node_in (rw length-set refl)
-                  (rw length-set refl) (owes_left s x p v (o, with_channel f c) net.framed place there.1);
+                  (rw length-set refl);
               works =
                   subst (λ (n : Network). Works (shape s) own n) (sym is)
                   (let_out_works (shape s) (framed_mesh s net.framed) N net.works x p v o c f rest there.0 record_is

@@ -25,7 +25,6 @@ use Rattle.worm_region.specs.Moves.{done_step}
 use Rattle.worm_region.proofs.NodeWritten.{put2_same, put3_same, node_bridge, itself3, input_of-put, input_of-there}
 use Rattle.worm_region.proofs.NodeWritten.{below_cases}
 use Rattle.worm_region.proofs.AsListed.{buffer_there}
-use Rattle.worm_region.proofs.OwesToLinks.{owes_less}
 use Rattle.worm_region.proofs.FrameKept.{is_nth, step_made, framed_mesh, node_framed}
 use Rattle.worm_region.proofs.ListFronts.{next_of, end_of}
 use Rattle.worm_region.proofs.Sources.{queue_after, fed_source, within_fed}
@@ -63,7 +62,6 @@ module _ (s : NetState) (x k : ℕ) (f : Flit) (framed : IsFramed s) (x_in : x <
         same_depth = old.same_depth;
         all_inputs = rw length-set old.all_inputs;
         all_outputs = old.all_outputs;
-        owing = owes_less s x port vc _ framed place (λ some. some);
         source_node = old.source_node;
         source_nodes = old.source_nodes;
         source_channels = old.source_channels;

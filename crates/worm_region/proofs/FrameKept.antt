@@ -13,7 +13,7 @@ use Rattle.worm_mesh.specs.Address.{node_count}
 use Rattle.worm_region.specs.Resting.{no_node, nth_node}
 use Rattle.worm_region.specs.Shape.{net_shape}
 use Rattle.worm_node.specs.declared.node.Node.{Node}
-use Rattle.worm_region.specs.State.{NetState, IsFramed, IsNodeOf, OwesToLinks, shape, network_of, node_at}
+use Rattle.worm_region.specs.State.{NetState, IsFramed, IsNodeOf, shape, network_of, node_at}
 use Rattle.worm_wires.specs.Links.{LinkView}
 use Rattle.worm_node.specs.NewNodes.{fresh_node}
 use Rattle.worm_region.specs.State.{router_at, with_node, with_router}
@@ -99,19 +99,17 @@ node_framed s x n framed there new = record {
 pub node_of : (mesh channels : List ℕ) (depth x : ℕ) (n : Node) (ins : List ChannelState) (outs : List OutRecord)
     (came : List Flit) → IsNodeOf mesh channels depth x n
     → length ins ≡ length n.router.inputs → length outs ≡ length n.router.outputs
-    → OwesToLinks mesh x (record n.router { inputs = ins; outputs = outs })
     → IsNodeOf mesh channels depth x (record n {
       router = record n.router { inputs = ins; outputs = outs };
       sink = record n.sink { delivered = came };
     })
-node_of mesh channels depth x n ins outs came old same_ins same_outs owing = record {
+node_of mesh channels depth x n ins outs came old same_ins same_outs = record {
   same_mesh = old.same_mesh;
   same_node = old.same_node;
   same_channels = old.same_channels;
   same_depth = old.same_depth;
   all_inputs = same_ins ∙ old.all_inputs;
   all_outputs = same_outs ∙ old.all_outputs;
-  owing = owing;
   source_node = old.source_node;
   source_nodes = old.source_nodes;
   source_channels = old.source_channels;
@@ -123,10 +121,9 @@ node_of mesh channels depth x n ins outs came old same_ins same_outs owing = rec
 -- a node with other channel lists of the same lengths
 pub router_framed : (s : NetState) (x : ℕ) (ins : List ChannelState) (outs : List OutRecord) → IsFramed s →
     x < length s.nodes → length ins ≡ length (router_at s x).inputs → length outs ≡ length (router_at s x).outputs
-    → OwesToLinks s.mesh x (record (router_at s x) { inputs = ins; outputs = outs })
     → IsFramed (with_router s x (record (router_at s x) { inputs = ins; outputs = outs }))
-router_framed s x ins outs framed there same_ins same_outs owing =
+router_framed s x ins outs framed there same_ins same_outs =
     node_framed s x (record (node_at s x) { router = record (router_at s x) { inputs = ins; outputs = outs } }) framed
     there
     (node_of s.mesh s.channels s.depth x (node_at s x) ins outs (node_at s x).sink.delivered
-    (framed.each_node x there) same_ins same_outs owing)
+    (framed.each_node x there) same_ins same_outs)

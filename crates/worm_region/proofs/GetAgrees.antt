@@ -96,8 +96,7 @@ module _ (s : NetState) (x o y : ℕ) {own : ℕ → Bool} (net : IsWorkableBy o
       subst (λ (cs : List ℕ). FrontIs cs (λ v. N.credits x o v < s.depth)) (sym list) less in
       let r = after_credit (router_at s x) o c in
       let mid = with_router s x r in
-      let mid_framed = router_framed s x r.inputs r.outputs net.framed x_in refl (rw length-set refl)
-      node.owing in
+      let mid_framed = router_framed s x r.inputs r.outputs net.framed x_in refl (rw length-set refl) in
       let l : LinkView = record (link_at s k) { credits = rest } in
       let from_mid = link_bridge mid x o l mid_framed lead.has in
       let mid_is = credit_bridge s x o c net.framed place.0 in

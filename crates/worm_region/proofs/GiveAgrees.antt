@@ -22,7 +22,6 @@ use Rattle.worm_region.proofs.NodeWritten.{put2_same, put3_same, input_bridge, i
 use Rattle.worm_region.proofs.LinkWritten.{link_bridge, link_framed, out_there, credits_there}
 use Rattle.worm_region.proofs.AsListed.{owed_there}
 use Rattle.worm_region.proofs.Room.{bounded_less, credits_counted}
-use Rattle.worm_region.proofs.OwesToLinks.{owes_less}
 use Rattle.worm_region.proofs.FrameKept.{step_made, router_framed, framed_mesh}
 use Rattle.worm_region.proofs.PlacesThere.{net_place}
 use Rattle.worm_region.proofs.LinksThere.{feeder}
@@ -107,8 +106,7 @@ give_done s x p v y net place e can =
     let enabled : 0 < N.owed x p v = rw (owed_there s x p v place) owes in
     let r = after_gave (router_at s x) p v in
     let mid = with_router s x r in
-    let mid_framed = router_framed s x r.inputs r.outputs net.framed place.node_in (rw length-set refl) refl
-    (owes_less s x p v _ net.framed place (λ some. owes)) in
+    let mid_framed = router_framed s x r.inputs r.outputs net.framed place.node_in (rw length-set refl) refl in
     let l : LinkView = record (link_at s k) { credits = (link_at s k).credits ++ v ∷ [] } in
     let from_mid = link_bridge mid y o l mid_framed fed.has in
     let mid_is = owed_bridge s x p v net.framed place in

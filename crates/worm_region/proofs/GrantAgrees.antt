@@ -21,7 +21,6 @@ use Rattle.worm_region.specs.Answers.{moved_of}
 use Rattle.worm_region.proofs.NodeWritten.{put3_same, router_bridge, input_of-there, input_of-put, output_of-there}
 use Rattle.worm_region.proofs.NodeWritten.{output_of-put, with_router_same}
 use Rattle.worm_flit.proofs.Owners.{owner-from_owns, owns-from_owner}
-use Rattle.worm_region.proofs.OwesToLinks.{owes_less}
 use Rattle.worm_region.proofs.FrameKept.{step_made, router_framed}
 use Rattle.worm_region.proofs.PlacesThere.{net_place, port_below}
 use Rattle.worm_region.proofs.AsListed.{buffer_there, record_there, holder_there}
@@ -204,8 +203,7 @@ grant_answers_by s x p v k net there (Some o) e =
     let step = grant_done s x p v k o net place there.3 c.state c.buffer refl refl e in
     let r = after_granting (router_at s x) p v k (Some o) in
     let framed =
-    router_framed s x r.inputs r.outputs net.framed place.node_in (rw length-set refl) (rw length-set refl)
-    (owes_less s x p v _ net.framed place (λ some. some)) in
+    router_framed s x r.inputs r.outputs net.framed place.node_in (rw length-set refl) (rw length-set refl) in
     step_made s (with_router s x r).nodes s.links (Grant x p v k) net there (λ no. no) (step.0, step.1, framed)
     (ap (λ (g : Option ℕ). with_router s x (after_granting (router_at s x) p v k g)) (sym e))
 grant_answers_by s x p v k {own} net there None e =

@@ -4,7 +4,6 @@ pub mod OwnCredits
 pub mod StaysWorking
 pub mod FrameKept
 pub mod NewNet
-pub mod OwesToLinks
 pub mod PlacesThere
 pub mod AllOwned
 pub mod LinksThere

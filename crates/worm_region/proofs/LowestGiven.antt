@@ -1,20 +1,20 @@
 -- Credits are given by the ports that owe one, and what any other port owes stays.
 use Rattle.std.proofs.Common.{◌≡◌, ◌==◌, ℕ, ◌+◌, ◌-◌, ◌*◌, ◌<◌, ◌≤◌, true, false, inr, List, length, nat_lt, sum}
 use Rattle.std.proofs.Common.{Some, None, refl, arith, ap, sym, subst, ◌∙◌}
-use Rattle.std.specs.Prelude.{Result}
+use Rattle.std.specs.Prelude.{IsSome, Result}
 use Rattle.std.specs.List.{range_with_len}
 use Rattle.std.proofs.lemmas.Bool.{eq-eqb, false_from_ne_true}
 use Rattle.std.proofs.lemmas.Bool.Decides.{nat_tests}
 use Rattle.worm_vcalloc.specs.ChannelSet.{has, IsFirstPort, IsLowest}
 use Rattle.worm_vcalloc.proofs.SetMembers.{has-zero}
-use Rattle.worm_mesh.specs.Address.{node_count}
+use Rattle.worm_mesh.specs.Address.{neighbour_of, node_count}
 use Rattle.worm_mesh.proofs.Digits.{AreLarge-from_radices}
 use Rattle.worm_router.specs.Router.{ChannelState, RouterState, input_at, with_input, terminal, width, after_gave}
-use Rattle.worm_router.specs.Busy.{IsSetOf, owes}
-use Rattle.worm_theory.specs.Steps.{GiveCredit}
+use Rattle.worm_router.specs.Busy.{IsSetOf, OweByLinks, owes}
+use Rattle.worm_theory.specs.Steps.{GiveCredit, IsThere}
 use Rattle.worm_theory.proofs.Places.{same-false}
 use Rattle.worm_region.specs.Shape.{net_shape}
-use Rattle.worm_region.specs.State.{IsSameConfig, NetState, node_at, router_at, with_node, with_router}
+use Rattle.worm_region.specs.State.{IsSameConfig, NetState, node_at, router_at, shape, with_node, with_router}
 use Rattle.worm_region.specs.Workable.{IsWorkable}
 use Rattle.worm_region.specs.Replies.{Attempts, Replies}
 use Rattle.worm_region.specs.Moves.{OwesTheSame, can_give}
@@ -23,7 +23,6 @@ use Rattle.worm_node.specs.declared.node.Node.{Node}
 use Rattle.worm_region.specs.declared.step.Moved.{Moved}
 use Rattle.worm_region.specs.declared.fault.StepFault.{StepFault}
 use Rattle.worm_region.proofs.NodeWritten.{node_at-put, input_of-put, input_of-there}
-use Rattle.worm_region.proofs.OwesToLinks.{owes_there}
 use Rattle.worm_region.proofs.PlacesThere.{linked_port, net_place}
 use Rattle.worm_region.proofs.ReachedBySteps.{by_made}
 use Rattle.worm_region.proofs.Passages.{loop_more}
@@ -87,45 +86,53 @@ router_size s x net there =
     let node = net.framed.each_node x (omega arith) in
     (ap (λ (m : List ℕ). 2 * length m) node.same_mesh, ap (λ (m : List ℕ). sum m) node.same_channels)
 
--- what a set has of a port is what owes a credit there
+-- a router's ports that face links are the ports of its node that have them
+pub node_owes : (s : NetState) (x set : ℕ) → IsWorkable s → x < node_count s.mesh
+    → OweByLinks (router_at s x).mesh (router_at s x).node set → OweByLinks s.mesh x set
+node_owes s x set sound there links =
+    let all = sound.framed.all_nodes in
+    let node = sound.framed.each_node x (omega arith) in
+    subst (λ (m : List ℕ). OweByLinks m x set) node.same_mesh
+    (subst (λ (y : ℕ). OweByLinks (router_at s x).mesh y set) node.same_node links)
+
+-- what a set has of a port is what owes a credit there, and the port has a link
 pub record OwesAt (owing : ℕ) (s : NetState) (x p : ℕ) : Type 0 where
   pub owed : (v : ℕ) → v < sum s.channels → has owing p v ≡ can_give s x p v
   pub within : (v : ℕ) → v < 8 → has owing p v ≡ true → v < sum s.channels
+  pub linked : (v : ℕ) → v < 8 → has owing p v ≡ true → IsSome (neighbour_of s.mesh x p)
 
 -- the lowest channel that the set has of a port owes a credit, as no lower one does
 pub record IsNext (s : NetState) (x p v : ℕ) : Type 0 where
-  pub channel_in : v < sum s.channels
+  pub there : IsThere (shape s) (GiveCredit x p v)
   pub owes : 0 < (input_at (router_at s x) p v).owed
   pub lowest : Some v ≡ lowest_owed (router_at s x) p
 
 module _ (owing : ℕ) (s : NetState) (x p : ℕ) (sound : IsWorkable s) (there : x < node_count s.mesh) where
-  pub owes_first : IsSetOf owes (router_at s x) owing → p < 2 * length s.mesh → OwesAt owing s x p
-  owes_first set p_in =
+  pub owes_first : IsSetOf owes (router_at s x) owing → OweByLinks s.mesh x owing → p < 2 * length s.mesh
+      → OwesAt owing s x p
+  owes_first set links p_in =
       let size = router_size s x sound there in
       let few = sound.framed.radices.few_dims in
       record {
         owed = λ v v_in. set.inside p v (omega (arith, size.0)) (omega (arith, size.1));
         within = λ v v_few some. omega (arith, size.1, (set.outside p v (omega arith) v_few some).1);
+        linked = λ v v_few some. links.each p v (omega arith) v_few some;
       }
 
   -- a port with a channel that owes has a link, so it is below the terminal
-  pub port_owing : (v : ℕ) → IsSetOf owes (router_at s x) owing → p < 7 → v < 8 → has owing p v ≡ true
-      → p < 2 * length s.mesh
-  unfolding net_shape
-  port_owing v set p_few v_few some =
-      let at = set.outside p v p_few v_few some in
-      let wide = (router_size s x sound there).1 in
-      let owes = owing_some (input_at (router_at s x) p v).owed (sym (set.inside p v at.0 at.1) ∙ some) in
+  pub port_owing : (v : ℕ) → OweByLinks s.mesh x owing → p < 7 → v < 8 → has owing p v ≡ true → p < 2 * length s.mesh
+  port_owing v links p_few v_few some =
       linked_port s.mesh x p (AreLarge-from_radices s.mesh sound.framed.radices.radices) _ refl
-      (owes_there s x p v sound.framed (omega (arith, at.1)) owes).1
+      (links.each p v p_few v_few some)
 
   pub lowest_next : (v : ℕ) → OwesAt owing s x p → IsLowest owing p v → IsNext s x p v
+  unfolding net_shape
   lowest_next v at lowest =
       let v_in = at.within v lowest.channel_in lowest.is_in in
       let wide = (router_size s x sound there).1 in
       let owes = owing_some (input_at (router_at s x) p v).owed (sym (at.owed v v_in) ∙ lowest.is_in) in
       record {
-        channel_in = v_in;
+        there = (there, at.linked v lowest.channel_in lowest.is_in, v_in);
         owes = owes;
         lowest =
             owed_lowest (router_at s x) p (Some v) (omega arith, owes)
@@ -142,11 +149,12 @@ module _ (owing : ℕ) (s : NetState) (x p : ℕ) (sound : IsWorkable s) (there 
       (λ v v_in. none_owed (input_at (router_at s x) p v).owed (sym (at.owed v (omega arith)) ∙ none v (omega arith)))
 
   -- it was so before, and nothing has changed of the port
-  pub owes_still : (before : NetState) (set : ℕ) → OwesAt set before x p → sum s.channels ≡ sum before.channels
+  pub owes_still : (before : NetState) (set : ℕ) → OwesAt set before x p → IsSameConfig before s
       → ((v : ℕ) → v < 8 → has owing p v ≡ has set p v)
       → ((v : ℕ) → v < width (router_at s x) → OwesTheSame before s x p v) → OwesAt owing s x p
-  owes_still before set at same kept others =
+  owes_still before set at config kept others =
       let few = sound.framed.classes.total in
+      let same : sum s.channels ≡ sum before.channels = ap (λ (cs : List ℕ). sum cs) config.channels in
       let wide = (router_size s x sound there).1 in
       record {
         owed = λ v v_in.
@@ -154,6 +162,9 @@ module _ (owing : ℕ) (s : NetState) (x p : ℕ) (sound : IsWorkable s) (there 
             ∙ ap (λ (n : ℕ). nat_lt 0 n) (sym (others v (omega arith)).owed);
         within = λ v v_few some.
             let before_in = at.within v v_few (sym (kept v v_few) ∙ some) in omega arith;
+        linked = λ v v_few some.
+            subst (λ (m : List ℕ). IsSome (neighbour_of m x p)) (sym config.mesh)
+            (at.linked v v_few (sym (kept v v_few) ∙ some));
       }
 
 -- a walk over the mesh ports of a node, at those of which that have a channel in a set, which are those that owe
@@ -164,15 +175,16 @@ pub record Owing (Done : ℕ → Type 0) (x count owing : ℕ) (s : NetState) : 
   pub walked : Walked Done (λ p. OwesAt owing s x p) (IsPortOut owing) count
 
 pub owing_start : {Done : ℕ → Type 0} (x owing : ℕ) (s : NetState) → IsWorkable s → x < node_count s.mesh
-    → IsSetOf owes (router_at s x) owing → Done 0 → Owing Done x (2 * length s.mesh) owing s
-owing_start x owing s sound there set done = record {
+    → IsSetOf owes (router_at s x) owing → OweByLinks s.mesh x owing → Done 0
+    → Owing Done x (2 * length s.mesh) owing s
+owing_start x owing s sound there set links done = record {
   sound = sound;
   there = there;
   ports = refl;
   walked = walked_start done
       (λ p past p_few v v_few. false_from_ne_true (has owing p v)
-      (λ on. let p_in = port_owing owing s x p sound there v set p_few v_few on in omega arith))
-      (λ p p_in. owes_first owing s x p sound there set p_in);
+      (λ on. let p_in = port_owing owing s x p sound there v links p_few v_few on in omega arith))
+      (λ p p_in. owes_first owing s x p sound there set links p_in);
 }
 
 module _ {Done : ℕ → Type 0} {x count owing : ℕ} {s : NetState} (left : Owing Done x count owing s) where
@@ -209,7 +221,7 @@ module _ {Done : ℕ → Type 0} {x count owing : ℕ} {s : NetState} (left : Ow
           walked = walked_more stays q left.walked (port_taken first) step
               (λ p above p_in at.
               let away : p ≡ q → ⊥ = λ e. omega arith in
-              owes_still new to x p sound there s owing at (ap (λ (cs : List ℕ). sum cs) config.channels)
+              owes_still new to x p sound there s owing at config
               (λ v v_few. first.elsewhere p v (omega arith) v_few away) (λ v v_in. others p v away v_in));
         }
 

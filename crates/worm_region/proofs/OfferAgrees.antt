@@ -73,7 +73,6 @@ module _ (s : NetState) (x : ℕ) (lane : Lane) (fs : List Flit) (is_last : Bool
         same_depth = old.same_depth;
         all_inputs = old.all_inputs;
         all_outputs = old.all_outputs;
-        owing = old.owing;
         source_node = old.source_node;
         source_nodes = old.source_nodes;
         source_channels = old.source_channels;

@@ -106,7 +106,6 @@ arbiters_moved s x a b net there =
           same_depth = old.same_depth;
           all_inputs = old.all_inputs;
           all_outputs = old.all_outputs;
-          owing = old.owing;
           source_node = old.source_node;
           source_nodes = old.source_nodes;
           source_channels = old.source_channels;

@@ -18,7 +18,6 @@ use Rattle.worm_region.specs.Replies.{Replies}
 use Rattle.worm_region.specs.Answers.{moved_of}
 use Rattle.worm_region.proofs.NodeWritten.{put3_same, input_bridge, input_of-there}
 use Rattle.worm_region.proofs.AsListed.{buffer_there, record_there}
-use Rattle.worm_region.proofs.OwesToLinks.{owes_less}
 use Rattle.worm_region.proofs.FrameKept.{step_made, router_framed}
 use Rattle.worm_region.proofs.PlacesThere.{net_place}
 
@@ -106,8 +105,7 @@ route_answers s x p v net there true e =
     let c = input_at (router_at s x) p v in
     let step = route_done s x p v net.framed place c.state c.buffer refl refl (sym e) in
     let r = after_route (router_at s x) p v in
-    let framed = router_framed s x r.inputs r.outputs net.framed place.node_in (rw length-set refl) refl
-    (owes_less s x p v _ net.framed place (λ some. some)) in
+    let framed = router_framed s x r.inputs r.outputs net.framed place.node_in (rw length-set refl) refl in
     step_made s (with_router s x r).nodes s.links (Route x p v) net there (λ no. no) (step.0, step.1, framed) refl
 route_answers s x p v net there false e =
     let place = net_place s x p v net.framed there.0 there.1 there.2 in

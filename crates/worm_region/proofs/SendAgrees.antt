@@ -1,5 +1,5 @@
 -- A flit is sent just where the theory enables Send and its way is free, and that makes of the network what Send does.
-use Rattle.std.proofs.Common.{◌≡◌, ℕ, ◌*◌, ◌<◌, ◌≤◌, ◌==◌, nat_lt, Bool, true, false, ◌&&◌, ◌||◌}
+use Rattle.std.proofs.Common.{◌≡◌, ℕ, ◌*◌, ◌<◌, ◌≤◌, ◌==◌, nat_lt, Bool, true, false, ◌&&◌, ◌||◌, not, is_some}
 use Rattle.std.proofs.Common.{if◌then◌else◌, ◌⊎◌, inl, inr, List, [], ◌∷◌, ◌++◌, length, sum, Ok, Err, Option}
 use Rattle.std.proofs.Common.{Some, None, refl, arith, ap, sym, subst, ◌∙◌}
 use Rattle.std.specs.Prelude.{IfSome, IsSome, Result}
@@ -9,7 +9,8 @@ use Rattle.worm_flit.specs.Stamps.{with_channel}
 use Rattle.worm_mesh.specs.Address.{neighbour_of, node_count}
 use Rattle.worm_records.specs.declared.InRecord.{InRecord}
 use Rattle.worm_records.specs.declared.InRecord.TheVariants.{Idle, Waiting, Active}
-use Rattle.worm_router.specs.Router.{width, terminal, input_at, output_at, leaving, leaving_by, after_leaving}
+use Rattle.worm_router.specs.Router.{width, terminal, input_at, is_linked, output_at, leaving, leaving_by}
+use Rattle.worm_router.specs.Router.{after_leaving}
 use Rattle.worm_theory.specs.Network.{Network}
 use Rattle.worm_theory.specs.Steps.{Step, Send, IsPort, IsThere, IsActiveAt, MaySend, Enabled, after, sent, sent_by}
 use Rattle.worm_theory.proofs.Places.{bool_cases}
@@ -30,7 +31,7 @@ use Rattle.worm_region.proofs.AsListed.{buffer_there, record_there, owed_there, 
 use Rattle.worm_region.proofs.FrameKept.{kept, framed_mesh, node_framed, node_of, router_framed}
 use Rattle.worm_region.proofs.PlacesThere.{net_place}
 use Rattle.worm_region.proofs.LinksThere.{leader}
-use Rattle.worm_region.proofs.SentToLink.{active_leads, owes_left, sent_to_link}
+use Rattle.worm_region.proofs.SentToLink.{active_leads, linked_is, sent_to_link}
 use Rattle.worm_region.proofs.SentToSink.{delivered_bridge}
 
 -- where the front of an active channel goes: into the sink, or over a link
@@ -89,7 +90,7 @@ pub record Stands (old : NetState) (step : Step) (new : NetState) : Type 0 where
 abbrev pub may_leave : NetState → ℕ → ℕ → ℕ → ℕ → ℕ → Bool
 may_leave s x p v o c =
     (o == terminal (router_at s x) || nat_lt 0 (output_at (router_at s x) o c).credits) &&
-    (p == terminal (router_at s x) || nat_lt (input_at (router_at s x) p v).owed (router_at s x).depth)
+    (not (is_linked (router_at s x) p) || nat_lt (input_at (router_at s x) p v).owed (router_at s x).depth)
 
 less_true : (a b : ℕ) → nat_lt a b ≡ true → a < b
 less_true a b e = grind arith
@@ -132,18 +133,15 @@ module _ (s : NetState) (x p v o c : ℕ) (f : Flit) (rest : List Flit) {own : �
       let node = net.framed.each_node x place.node_in in
       let parts =
       both_of (o == terminal (router_at s x)) (nat_lt 0 (output_at (router_at s x) o c).credits)
-      (p == terminal (router_at s x)) (nat_lt (input_at (router_at s x) p v).owed (router_at s x).depth) test in
+      (not (is_linked (router_at s x) p)) (nat_lt (input_at (router_at s x) p v).owed (router_at s x).depth) test in
       let out : (o ≡ 2 * length s.mesh) ⊎ (0 < N.credits x o c) = elim parts.0 [
         | inl at ↦ inl (same_true o (terminal (router_at s x)) at ∙ terminal_is)
         | inr some ↦ inr (rw (spent_there s x o c c_within) (less_true 0 (output_at (router_at s x) o c).credits some))
       ] in
       let owe : IsSome (neighbour_of s.mesh x p) → N.owed x p v < s.depth = λ linked. elim parts.1 [
         | inl at ↦
-            let here : p ≡ 2 * length s.mesh = same_true p (terminal (router_at s x)) at ∙ terminal_is in
-            let none = (framed_mesh s net.framed).terminal_alone x in
-            let some : IsSome (neighbour_of s.mesh x (2 * length s.mesh)) =
-            subst (λ (q : ℕ). IsSome (neighbour_of s.mesh x q)) here linked in
-            let clash : IsSome {T = ℕ} None = subst IsSome none some in
+            let some : not (is_linked (router_at s x) p) ≡ false =
+            ap not (linked_is s x p node.same_mesh node.same_node ∙ linked) in
             absurd (cc)
         | inr few ↦
             rw (owed_there s x p v place) (let less =
@@ -163,15 +161,16 @@ module _ (s : NetState) (x p v o c : ℕ) (f : Flit) (rest : List Flit) {own : �
         | inr some ↦
             inr (less_test 0 (output_at (router_at s x) o c).credits (rw (spent_there s x o c c_within) at some))
       ] in
-      let owe : ((p == terminal (router_at s x)) ≡ true) ⊎
-      (nat_lt (input_at (router_at s x) p v).owed (router_at s x).depth ≡ true) = elim port [
-        | inl at ↦ inl (same_test p (terminal (router_at s x)) (at ∙ sym terminal_is))
-        | inr linked ↦
+      let owe : (not (is_linked (router_at s x) p) ≡ true) ⊎
+      (nat_lt (input_at (router_at s x) p v).owed (router_at s x).depth ≡ true) =
+      elim (bool_cases (is_some (neighbour_of s.mesh x p))) [
+        | inr none ↦ inl (ap not (linked_is s x p node.same_mesh node.same_node ∙ none))
+        | inl linked ↦
             inr (less_test (input_at (router_at s x) p v).owed (router_at s x).depth (let less =
             rw (owed_there s x p v place) at (may.2 linked) in let d = node.same_depth in omega arith))
       ] in
       of_both (o == terminal (router_at s x)) (nat_lt 0 (output_at (router_at s x) o c).credits)
-      (p == terminal (router_at s x)) (nat_lt (input_at (router_at s x) p v).owed (router_at s x).depth) out owe
+      (not (is_linked (router_at s x) p)) (nat_lt (input_at (router_at s x) p v).owed (router_at s x).depth) out owe
 
   abbrev leaves : Option (ℕ × Flit)
   leaves = Some (o, with_channel f c)
@@ -204,13 +203,13 @@ module _ (s : NetState) (x p v o c : ℕ) (f : Flit) (rest : List Flit) {own : �
   made_home : IsThere (shape s) (Send x p v) → may_leave s x p v o c ≡ true → o ≡ 2 * length s.mesh → Made at_home
   made_home there test at =
       let enabled = enabled_by test in
-      let step = delivered_bridge s x p v o c f rest net place port at c_within e b ∙ to_after in
+      let step = delivered_bridge s x p v o c f rest net place at c_within e b ∙ to_after in
       let r = after_leaving (router_at s x) p v leaves in
       let framed =
       node_framed s x _ net.framed place.node_in
       (node_of s.mesh s.channels s.depth x (node_at s x) r.inputs r.outputs
       ((sink_at s x).delivered ++ with_channel f c ∷ []) (net.framed.each_node x place.node_in) (rw length-set refl)
-      (rw length-set refl) (owes_left s x p v (o, with_channel f c) net.framed place port)) in (
+      (rw length-set refl)) in (
         kept s at_home.nodes s.links (Send x p v) net there enabled framed step,
         record {
           there = there;
@@ -229,12 +228,11 @@ module _ (s : NetState) (x p v o c : ℕ) (f : Flit) (rest : List Flit) {own : �
       let node = net.framed.each_node x place.node_in in
       let port_in : o < 2 * length s.mesh = lead.port_in in
       let o_in : o ≤ terminal (router_at s x) = rw terminal_is (omega arith) in
-      let step = sent_to_link s x p v o c f rest net place port lead.has o_in c_within e b ∙ to_after in
+      let step = sent_to_link s x p v o c f rest net place lead.has o_in c_within e b ∙ to_after in
       let r = after_leaving (router_at s x) p v leaves in
       let mid = with_router s x r in
       let mid_framed =
-      router_framed s x r.inputs r.outputs net.framed place.node_in (rw length-set refl) (rw length-set refl)
-      (owes_left s x p v (o, with_channel f c) net.framed place port) in
+      router_framed s x r.inputs r.outputs net.framed place.node_in (rw length-set refl) (rw length-set refl) in
       let framed =
       link_framed mid (link_out s x o) (record (link_at s (link_out s x o)) {
         flits = (link_at s (link_out s x o)).flits ++ with_channel f c ∷ [];

@@ -1,66 +1,47 @@
 -- A flit that is sent to a link is a change of the functions of places as the theory has it.
 use Rattle.std.proofs.Common.{◌≡◌, ℕ, ◌+◌, ◌-◌, ◌*◌, ◌<◌, ◌≤◌, ◌==◌, true, false, cond, inl, inr, List, [], ◌∷◌, ◌++◌}
-use Rattle.std.proofs.Common.{length, drop, Some, None, is_some, refl, arith, ap, sym, subst, ◌∙◌, Bool}
+use Rattle.std.proofs.Common.{length, drop, Some, None, is_some, refl, arith, ap, sym, subst, ◌∙◌, Bool, if◌then◌else◌}
 use Rattle.std.proofs.Math.ListN.{length-set}
 use Rattle.worm_flit.specs.declared.Flit.{Flit}
 use Rattle.worm_flit.specs.Kinds.{closes}
 use Rattle.worm_flit.specs.Stamps.{with_channel}
 use Rattle.worm_mesh.specs.Address.{has_neighbour, neighbour_of}
 use Rattle.worm_mesh.specs.Links.{links_before}
-use Rattle.worm_mesh.proofs.Neighbours.{neighbour_of-none, no_port}
 use Rattle.worm_records.specs.declared.InRecord.{InRecord}
 use Rattle.worm_records.specs.declared.InRecord.TheVariants.{Idle, Active}
 use Rattle.worm_records.specs.declared.OutRecord.{OutRecord}
 use Rattle.worm_router.specs.Router.{ChannelState, RouterState, IsPlace, width, terminal, input_at, output_at}
-use Rattle.worm_router.specs.Router.{with_input, with_output, let_out, passed, credit_of, after_leaving}
+use Rattle.worm_router.specs.Router.{with_input, with_output, let_out, passed, credit_of, is_linked, owed_for}
+use Rattle.worm_router.specs.Router.{after_leaving}
 use Rattle.worm_theory.specs.Network.{Network, put2, put3}
-use Rattle.worm_theory.specs.Steps.{IsPort, sent_by}
+use Rattle.worm_theory.specs.Steps.{sent_by}
 use Rattle.worm_region.specs.Shape.{net_shape}
-use Rattle.worm_region.specs.State.{NetState, IsFramed, IsNetPlace, OwesToLinks, shape, network_of, router_at}
+use Rattle.worm_region.specs.State.{NetState, IsFramed, IsNetPlace, shape, network_of, router_at}
 use Rattle.worm_wires.specs.Links.{LinkView}
 use Rattle.worm_region.specs.State.{link_at, with_link, with_router}
 use Rattle.worm_region.specs.Workable.{IsWorkableBy, LeadsOn}
 use Rattle.worm_region.proofs.NodeWritten.{put2_same, router_bridge, input_of-put, output_of-put}
 use Rattle.worm_region.proofs.FrameKept.{router_framed}
-use Rattle.worm_region.proofs.OwesToLinks.{owes_less, owes_put}
 use Rattle.worm_region.proofs.LinkWritten.{link_bridge, out_there, credits_there}
 use Rattle.worm_theory.proofs.Places.{bool_cases}
 use Rattle.worm_region.proofs.AsListed.{record_there, holder_there, owed_there, spent_there}
 
-not_same_test : (a b : ℕ) → (a == b) ≡ false → a ≡ b → ⊥
-not_same_test a b e h = grind arith
+one_more : (a : ℕ) (linked : Bool) → a + (if linked then 1 else 0) ≡ cond linked (a + 1) a
+one_more a true = refl
+one_more a false = omega arith
+
+-- the router's port faces a link exactly where its node has a neighbour
+pub linked_is : (s : NetState) (x p : ℕ) → (router_at s x).mesh ≡ s.mesh → (router_at s x).node ≡ x
+    → is_linked (router_at s x) p ≡ is_some (neighbour_of s.mesh x p)
+linked_is s x p mesh node =
+    ap (λ (m : List ℕ). is_some (neighbour_of m (router_at s x).node p)) mesh
+    ∙ ap (λ (y : ℕ). is_some (neighbour_of s.mesh y p)) node
 
 -- a credit is owed exactly at a port with a neighbour
-pub owes : (s : NetState) (x p a : ℕ) → (router_at s x).mesh ≡ s.mesh → IsPort (shape s) x p
-    → a + credit_of (router_at s x) p ≡ cond (is_some (neighbour_of s.mesh x p)) (a + 1) a
-unfolding net_shape
-owes s x p a same port =
-    elim (bool_cases (p == 2 * length (router_at s x).mesh)) [
-      | inl here ↦
-          let at : p ≡ 2 * length s.mesh = rw (← same) (grind arith) in
-          let none : neighbour_of s.mesh x p ≡ None =
-          neighbour_of-none s.mesh x p (no_port s.mesh x p (omega arith)) in
-          rw (here, none) (omega arith)
-      | inr away ↦ elim port [
-        | inl at ↦ absurd (not_same_test p (2 * length (router_at s x).mesh) away (rw same at))
-        | inr some ↦ let there : is_some (neighbour_of s.mesh x p) ≡ true = some in rw (away, there) refl
-      ]
-    ]
-
--- after a flit left, too
-pub owes_left : (s : NetState) (x p v : ℕ) (d : ℕ × Flit) → IsFramed s → IsNetPlace s x p v → IsPort (shape s) x p
-    → OwesToLinks s.mesh x (after_leaving (router_at s x) p v (Some d))
-owes_left s x p v d framed place port =
-    let i = input_at (router_at s x) p v in
-    let c : ChannelState = let_out i d.1 (credit_of (router_at s x) p) in
-    let node = framed.each_node x place.node_in in
-    let more = owes s x p i.owed node.same_mesh port in
-    elim (bool_cases (is_some (neighbour_of s.mesh x p))) [
-      | inl linked ↦ owes_put s x p v c framed place (λ some. linked)
-      | inr none ↦
-          let same : c.owed ≡ i.owed = rw none at more in
-          owes_less s x p v c framed place (λ some. rw same at some)
-    ]
+pub owes : (s : NetState) (x p a : ℕ) → (router_at s x).mesh ≡ s.mesh → (router_at s x).node ≡ x
+    → a + owed_for (router_at s x) p ≡ cond (is_some (neighbour_of s.mesh x p)) (a + 1) a
+owes s x p a mesh node =
+    one_more a (is_linked (router_at s x) p) ∙ ap (λ b. cond b (a + 1) a) (linked_is s x p mesh node)
 
 pub spends : (s : NetState) (x o a : ℕ) → (router_at s x).mesh ≡ s.mesh →
     a - credit_of (router_at s x) o ≡ cond (o == 2 * length s.mesh) a (a - 1)
@@ -82,7 +63,7 @@ active_leads s x p v o c net x_in e =
 
 -- the router's part of a Send
 pub sent_bridge : (s : NetState) (x p v o c : ℕ) (f : Flit) (rest : List Flit) → {own : ℕ → Bool} →
-    IsWorkableBy own s → IsNetPlace s x p v → IsPort (shape s) x p → o ≤ terminal (router_at s x) →
+    IsWorkableBy own s → IsNetPlace s x p v → o ≤ terminal (router_at s x) →
     c < width (router_at s x)
     → (input_at (router_at s x) p v).state ≡ Active o c → (input_at (router_at s x) p v).buffer ≡ f ∷ rest
     → network_of (with_router s x (after_leaving (router_at s x) p v (Some (o, with_channel f c)))) ≡
@@ -98,14 +79,14 @@ pub sent_bridge : (s : NetState) (x p v o c : ℕ) (f : Flit) (rest : List Flit)
           put3 (network_of s).owed x p v
           (cond (is_some (neighbour_of s.mesh x p)) ((network_of s).owed x p v + 1) ((network_of s).owed x p v));
     }
-sent_bridge s x p v o c f rest net place port o_in c_in e b =
+sent_bridge s x p v o c f rest net place o_in c_in e b =
     let N = network_of s in
     let r = router_at s x in
     let node = net.framed.each_node x place.node_in in
     let i = input_at r p v in
     let u = output_at r o c in
     let g = with_channel f c in
-    let i2 : ChannelState = let_out i g (credit_of r p) in
+    let i2 : ChannelState = let_out i g (owed_for r p) in
     let u2 : OutRecord = passed u g (credit_of r o) in
     let r1 : RouterState = with_input r p v i2 in
     let out_place : IsPlace r1 o c = record { port_in = o_in; channel_in = c_in } in
@@ -113,15 +94,15 @@ sent_bridge s x p v o c f rest net place port o_in c_in e b =
     sym (holder_there s x o c c_in) ∙
     (active_leads s x p v o c net place.node_in (record_there s x p v place ∙ e)).2 in
     let buffer : drop 1 i.buffer ≡ rest = ap (λ (fs : List Flit). drop 1 fs) b in
-    let owed : i.owed + credit_of r p ≡ cond (is_some (neighbour_of s.mesh x p)) (N.owed x p v + 1) (N.owed x p v) =
-    rw (owed_there s x p v place) (owes s x p i.owed node.same_mesh port) in
+    let owed : i.owed + owed_for r p ≡ cond (is_some (neighbour_of s.mesh x p)) (N.owed x p v + 1) (N.owed x p v) =
+    rw (owed_there s x p v place) (owes s x p i.owed node.same_mesh node.same_node) in
     let credits : u.credits - credit_of r o ≡ cond (o == 2 * length s.mesh) (N.credits x o c) (N.credits x o c - 1) =
     rw (spent_there s x o c c_in) (spends s x o u.credits node.same_mesh) in
     let same : record N {
       buffer = put3 N.buffer x p v (drop 1 i.buffer);
       in_record = put3 N.in_record x p v (cond (closes f.kind) Idle i.state);
       last_out = put3 N.last_out x p v (Some g);
-      owed = put3 N.owed x p v (i.owed + credit_of r p);
+      owed = put3 N.owed x p v (i.owed + owed_for r p);
       holder = put3 N.holder x o c (cond (closes f.kind) None u.holder);
       credits = put3 N.credits x o c (u.credits - credit_of r o);
     }
@@ -148,7 +129,7 @@ sent_bridge s x p v o c f rest net place port o_in c_in e b =
 
 -- Send to a link
 pub sent_to_link : (s : NetState) (x p v o c : ℕ) (f : Flit) (rest : List Flit) → {own : ℕ → Bool} →
-    IsWorkableBy own s → IsNetPlace s x p v → IsPort (shape s) x p → has_neighbour s.mesh x o ≡ true →
+    IsWorkableBy own s → IsNetPlace s x p v → has_neighbour s.mesh x o ≡ true →
     o ≤ terminal (router_at s x) → c < width (router_at s x)
     → (input_at (router_at s x) p v).state ≡ Active o c → (input_at (router_at s x) p v).buffer ≡ f ∷ rest
     → network_of (with_link (with_router s x (after_leaving (router_at s x) p v (Some (o, with_channel f c))))
@@ -158,17 +139,16 @@ pub sent_to_link : (s : NetState) (x p v o c : ℕ) (f : Flit) (rest : List Flit
     }))
     ≡ sent_by (shape s) (network_of s) x p v o c f rest
 unfolding net_shape
-sent_to_link s x p v o c f rest net place port has o_in c_in e b =
+sent_to_link s x p v o c f rest net place has o_in c_in e b =
     let N = network_of s in
     let k = links_before s.mesh x o in
     let r = after_leaving (router_at s x) p v (Some (o, with_channel f c)) in
     let mid = with_router s x r in
     let mid_framed =
-    router_framed s x r.inputs r.outputs net.framed place.node_in (rw length-set refl) (rw length-set refl)
-    (owes_left s x p v (o, with_channel f c) net.framed place port) in
+    router_framed s x r.inputs r.outputs net.framed place.node_in (rw length-set refl) (rw length-set refl) in
     let l : LinkView = record (link_at s k) { flits = (link_at s k).flits ++ with_channel f c ∷ [] } in
     let from_mid = link_bridge mid x o l mid_framed has in
-    let mid_is = sent_bridge s x p v o c f rest net place port o_in c_in e b in
+    let mid_is = sent_bridge s x p v o c f rest net place o_in c_in e b in
     let linked =
     ap (λ (n : Network). record n { out = put2 n.out x o l.flits; credit_list = put2 n.credit_list x o l.credits })
     mid_is in

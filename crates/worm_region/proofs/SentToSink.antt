@@ -8,10 +8,10 @@ use Rattle.worm_mesh.specs.Address.{neighbour_of}
 use Rattle.worm_records.specs.declared.InRecord.TheVariants.{Idle, Active}
 use Rattle.worm_records.specs.declared.OutRecord.{OutRecord}
 use Rattle.worm_router.specs.Router.{ChannelState, RouterState, IsPlace, width, terminal, input_at, output_at}
-use Rattle.worm_router.specs.Router.{with_input, with_output, let_out, passed, credit_of, after_leaving}
+use Rattle.worm_router.specs.Router.{with_input, with_output, let_out, passed, credit_of, owed_for, after_leaving}
 use Rattle.worm_term.specs.Source.{queue_at}
 use Rattle.worm_theory.specs.Network.{put2, put3}
-use Rattle.worm_theory.specs.Steps.{IsPort, sent_by}
+use Rattle.worm_theory.specs.Steps.{sent_by}
 use Rattle.worm_region.specs.Shape.{net_shape}
 use Rattle.worm_node.specs.declared.node.Node.{Node}
 use Rattle.worm_region.specs.State.{NetState, IsNetPlace, shape, network_of, node_at, router_at}
@@ -22,21 +22,21 @@ use Rattle.worm_region.proofs.AsListed.{record_there, holder_there, owed_there, 
 use Rattle.worm_region.proofs.SentToLink.{active_leads, owes, spends}
 
 pub delivered_bridge : (s : NetState) (x p v o c : ℕ) (f : Flit) (rest : List Flit) → {own : ℕ → Bool} →
-    IsWorkableBy own s → IsNetPlace s x p v → IsPort (shape s) x p → o ≡ 2 * length s.mesh → c < width (router_at s x)
+    IsWorkableBy own s → IsNetPlace s x p v → o ≡ 2 * length s.mesh → c < width (router_at s x)
     → (input_at (router_at s x) p v).state ≡ Active o c → (input_at (router_at s x) p v).buffer ≡ f ∷ rest
     → network_of (with_node s x (record (node_at s x) {
       router = after_leaving (router_at s x) p v (Some (o, with_channel f c));
       sink = record (sink_at s x) { delivered = (sink_at s x).delivered ++ with_channel f c ∷ [] };
     })) ≡ sent_by (shape s) (network_of s) x p v o c f rest
 unfolding network_of net_shape
-delivered_bridge s x p v o c f rest net place port at c_in e b =
+delivered_bridge s x p v o c f rest net place at c_in e b =
     let N = network_of s in
     let r = router_at s x in
     let node = net.framed.each_node x place.node_in in
     let i = input_at r p v in
     let u = output_at r o c in
     let g = with_channel f c in
-    let i2 : ChannelState = let_out i g (credit_of r p) in
+    let i2 : ChannelState = let_out i g (owed_for r p) in
     let u2 : OutRecord = passed u g (credit_of r o) in
     let r1 : RouterState = with_input r p v i2 in
     let q = queue_at (source_at s x) 0 in
@@ -51,8 +51,8 @@ delivered_bridge s x p v o c f rest net place port at c_in e b =
     sym (holder_there s x o c c_in) ∙
     (active_leads s x p v o c net place.node_in (record_there s x p v place ∙ e)).2 in
     let buffer : drop 1 i.buffer ≡ rest = ap (λ (fs : List Flit). drop 1 fs) b in
-    let owed : i.owed + credit_of r p ≡ cond (is_some (neighbour_of s.mesh x p)) (N.owed x p v + 1) (N.owed x p v) =
-    rw (owed_there s x p v place) (owes s x p i.owed node.same_mesh port) in
+    let owed : i.owed + owed_for r p ≡ cond (is_some (neighbour_of s.mesh x p)) (N.owed x p v + 1) (N.owed x p v) =
+    rw (owed_there s x p v place) (owes s x p i.owed node.same_mesh node.same_node) in
     let credits : u.credits - credit_of r o ≡ cond (o == 2 * length s.mesh) (N.credits x o c) (N.credits x o c - 1) =
     rw (spent_there s x o c c_in) (spends s x o u.credits node.same_mesh) in
     let injected = put2_same N.injected x 0 q.injected refl in
@@ -63,7 +63,7 @@ delivered_bridge s x p v o c f rest net place port at c_in e b =
       buffer = put3 N.buffer x p v (drop 1 i.buffer);
       in_record = put3 N.in_record x p v (cond (closes f.kind) Idle i.state);
       last_out = put3 N.last_out x p v (Some g);
-      owed = put3 N.owed x p v (i.owed + credit_of r p);
+      owed = put3 N.owed x p v (i.owed + owed_for r p);
       holder = put3 N.holder x o c (cond (closes f.kind) None u.holder);
       credits = put3 N.credits x o c (u.credits - credit_of r o);
       out = put2 N.out x (2 * length s.mesh) ((sink_at s x).delivered ++ g ∷ []);

@@ -26,7 +26,6 @@ use Rattle.worm_region.proofs.LinkedPorts.{of_node, port_there}
 use Rattle.worm_region.proofs.ListFronts.{first_of, none_of}
 use Rattle.worm_region.proofs.NodeWritten.{put2_same, put3_same, input_bridge, input_of-there, below_cases}
 use Rattle.worm_region.proofs.LinkWritten.{link_bridge, link_framed, out_there, credits_there}
-use Rattle.worm_region.proofs.OwesToLinks.{owes_less}
 use Rattle.worm_region.proofs.FrameKept.{step_made, router_framed}
 use Rattle.worm_region.proofs.AsListed.{buffer_there}
 
@@ -117,8 +116,7 @@ module _ (s : NetState) (x p y : ℕ) {own : ℕ → Bool} (net : IsWorkableBy o
       (sym e) front in
       let r = after_accept (router_at s x) p f in
       let mid = with_router s x r in
-      let mid_framed = router_framed s x r.inputs r.outputs net.framed x_in (rw length-set refl) refl
-      (owes_less s x p f.vc _ net.framed place.0 (λ some. some)) in
+      let mid_framed = router_framed s x r.inputs r.outputs net.framed x_in (rw length-set refl) refl in
       let l : LinkView = record (link_at s k) { flits = rest } in
       let from_mid = link_bridge mid y o l mid_framed fed.has in
       let mid_is = buffer_bridge s x p f net.framed place.0 in

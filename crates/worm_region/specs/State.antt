@@ -109,10 +109,6 @@ network_of s = record {
 abbrev pub shape : NetState → Shape
 shape s = net_shape s.mesh s.channels s.depth
 
--- a channel of the router owes a credit only where its port has a link
-abbrev pub OwesToLinks : List ℕ → ℕ → RouterState → Type 0
-OwesToLinks mesh x r = (p v : ℕ) → 0 < (input_of r p v).owed → IsSome (neighbour_of mesh x p)
-
 -- the node's parts are those of this node of this network
 pub record IsNodeOf (mesh channels : List ℕ) (depth x : ℕ) (n : Node) : Type 0 where
   pub same_mesh : n.router.mesh ≡ mesh
@@ -121,7 +117,6 @@ pub record IsNodeOf (mesh channels : List ℕ) (depth x : ℕ) (n : Node) : Type
   pub same_depth : n.router.depth ≡ depth
   pub all_inputs : length n.router.inputs ≡ places n.router
   pub all_outputs : length n.router.outputs ≡ places n.router
-  pub owing : OwesToLinks mesh x n.router
   pub source_node : n.source.node ≡ x
   pub source_nodes : n.source.nodes ≡ node_count mesh
   pub source_channels : n.source.channels ≡ channels

@@ -16,7 +16,7 @@ ghost use Rattle.worm_region.specs.Turns.{AreThere, Chooses, ComesInBy, NodePass
 ghost use Rattle.worm_region.specs.Turns.{ReachesAt};
 ghost use Rattle.worm_mesh.specs.Address.{node_count, neighbour_of};
 ghost use Rattle.worm_router.specs.Router.{input_at, leaving};
-ghost use Rattle.worm_router.specs.Busy.{IsSetOf, lacks_route, owes};
+ghost use Rattle.worm_router.specs.Busy.{IsSetOf, OweByLinks, lacks_route, owes};
 ghost use Rattle.worm_router.specs.Rest.{IsAtRest};
 ghost use Rattle.worm_router.specs.Allocation.{after_allocate};
 ghost use Rattle.worm_region.specs.Moves.{AreLinked, Covers, NoCredit, NoFeed, NoFlit};
@@ -192,10 +192,11 @@ impl Region {
         self.fabric.node(node).unfed()
     }
 
-    /// The channels of the node that owe a credit.
+    /// The channels of the node that owe a credit. Their ports have links.
     pub fn owing(&self, node: u8) -> ChannelSet
         requires { node < node_count self.now.mesh }
         ensures owing { IsSetOf owes (router_at self.now node) result }
+        ensures links { OweByLinks self.now.mesh node result }
         ensures sound { IsWorkable self.now }
     {
         self.fabric.node(node).router.owing()
@@ -299,10 +300,10 @@ impl Region {
         true
     }
 
-    /// A GiveCredit where the channel owes a credit: its port then has a link.
+    /// A GiveCredit where the channel owes a credit.
     #[inline(always)]
     pub fn give_owed(&mut self, node: u8, port: u8, vc: u8)
-        requires channel { vc < sum self.old.channels }
+        requires there { IsThere (shape self.old) (Event.GiveCredit node port vc) }
         requires owed { 0 < (input_at (router_at self.old node) port vc).owed }
         requires within { EndsWithin (shape self.old) (owned self.old) node port }
         ensures { Replies self.old (Event.GiveCredit node port vc) (Ok Done) self.new }

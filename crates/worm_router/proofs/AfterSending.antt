@@ -10,7 +10,7 @@ use Rattle.worm_vcalloc.specs.ChannelSet.{has}
 use Rattle.worm_vcalloc.specs.Table.{with_cell}
 use Rattle.worm_router.specs.declared.busy.BusyChannels.{BusyChannels}
 use Rattle.worm_router.specs.Router.{RouterState, ChannelState, IsChannel, IsPlace, terminal, width, line, in_state}
-use Rattle.worm_router.specs.Router.{fresh_channel, free_output, input_at, output_at, leaving, credit_of}
+use Rattle.worm_router.specs.Router.{fresh_channel, free_output, input_at, output_at, leaving, credit_of, owed_for}
 use Rattle.worm_router.specs.Demand.{DemandView}
 use Rattle.worm_router.specs.Busy.{IsKept, HasFront, IsFiled, is_occupied, is_waiting, owes, waits}
 use Rattle.worm_router.proofs.ChangesSound.{both_set_sound, left_by, left_sound, full_after, no_credit}
@@ -23,6 +23,7 @@ use Rattle.worm_router.proofs.HeldOuts.{outs_left}
 use Rattle.worm_router.proofs.Those.{unfiled}
 use Rattle.worm_router.proofs.LackCredit.{lack_left, leaves_with_credit}
 use Rattle.worm_router.proofs.OweAll.{owe_left, leaves_owing_less}
+use Rattle.worm_router.proofs.OweByLinks.{owing_left}
 use Rattle.worm_router.proofs.FullBuffers.{full_left}
 
 -- a flit that may leave, for so many credits spent and owed: its input channel and the output channel that this holds,
@@ -37,7 +38,7 @@ pub record IsLeaving (r : RouterState) (sets : BusyChannels) (port vc i out out_
   pub has_credit : has sets.no_credit port vc ≡ false
   pub owes_less : has sets.owes_all port vc ≡ false
   pub spends : spent ≡ credit_of r out
-  pub owes_more : more ≡ credit_of r port
+  pub owes_more : more ≡ owed_for r port
   pub enough : spent ≤ had_out.credits
   pub may_owe : had.owed + more ≤ r.depth
 
@@ -46,7 +47,7 @@ pub leaving_of : (r s : RouterState) (sets : BusyChannels) (asked : DemandView) 
     → r ≡ s → IsKept r sets asked masks → IsPlace s port vc → leaving s port vc ≡ Some (out, f)
     → i ≡ line s port vc → i < length s.inputs → had ≡ get_or r.inputs i had
     → o ≡ line s out f.vc → o < length s.outputs → had_out ≡ get_or r.outputs o had_out
-    → spent ≡ credit_of s out → more ≡ credit_of s port
+    → spent ≡ credit_of s out → more ≡ owed_for s port
     → IsLeaving r sets port vc i out f.vc o had had_out spent more
 leaving_of r s sets asked masks port vc i out o f had had_out spent more same kept place leaves at within read
     at_out within_out read_out spends owes_more =
@@ -63,7 +64,7 @@ leaving_of r s sets asked masks port vc i out o f had had_out spent more same ke
     let active : (input_at r port vc).state ≡ Active out f.vc =
     leaves_by_state r port (input_at r port vc) (input_at r port vc).state (input_at r port vc).buffer (out, f) may in
     let spends_it : spent ≡ credit_of r out = spends ∙ ap (λ (q : RouterState). credit_of q out) (sym same) in
-    let owes_it : more ≡ credit_of r port = owes_more ∙ ap (λ (q : RouterState). credit_of q port) (sym same) in
+    let owes_it : more ≡ owed_for r port = owes_more ∙ ap (λ (q : RouterState). owed_for q port) (sym same) in
     record {
       input = input;
       output = output;
@@ -81,13 +82,14 @@ leaving_of r s sets asked masks port vc i out o f had had_out spent more same ke
     }
 
 -- its front is out, and filed so: all of it that is the same whether that closed the packet
-pub record IsOut (depth : ℕ) (sets mid : BusyChannels) (port vc : ℕ) (had gone : ChannelState) (f : Flit) (more : ℕ)
-    : Type 0 where
+pub record IsOut (r : RouterState) (sets mid : BusyChannels) (port vc : ℕ) (had gone : ChannelState) (f : Flit)
+    (more : ℕ) : Type 0 where
   pub gone_is : gone ≡ left_by false had f more
   pub occupied : IsFiled sets.occupied mid.occupied port vc (is_occupied gone)
   pub owing : IsFiled sets.owing mid.owing port vc (owes gone)
-  pub owes_all : IsFiled sets.owes_all mid.owes_all port vc (nat_lt depth (gone.owed + more))
-  pub full : mid.full ≡ (if more == 0 then 0 else sets.full)
+  pub owes_here : owes gone ≡ (has sets.owing port vc || nat_lt 0 more)
+  pub owes_all : IsFiled sets.owes_all mid.owes_all port vc (nat_lt r.depth (gone.owed + more))
+  pub full : mid.full ≡ (if port == terminal r then 0 else sets.full)
   pub others : mid
       ≡ record sets { occupied = mid.occupied; owing = mid.owing; owes_all = mid.owes_all; full = mid.full }
 
@@ -100,8 +102,9 @@ record HasLeft (r : RouterState) (sets new : BusyChannels) (asked now_asked : De
   holder : u.holder ≡ (if closed then None else had_out.holder)
   occupied : IsFiled sets.occupied new.occupied port vc (is_occupied now)
   owing : IsFiled sets.owing new.owing port vc (owes now)
+  owes_here : owes now ≡ (has sets.owing port vc || nat_lt 0 more)
   owes_all : IsFiled sets.owes_all new.owes_all port vc (nat_lt r.depth (now.owed + more))
-  full : new.full ≡ (if more == 0 then 0 else sets.full)
+  full : new.full ≡ (if port == terminal r then 0 else sets.full)
   outs : new.outs ≡ (if closed then with_cell sets.outs port vc None else sets.outs)
   no_credit : IsFiled sets.no_credit new.no_credit port vc (not closed && nat_lt u.credits spent)
   requests : now_asked.requests ≡ asked.requests
@@ -183,15 +186,18 @@ module _ (r : RouterState) (sets new : BusyChannels) (asked now_asked : DemandVi
     owes_all = owe_left r port vc i had now leaving.input kept.busy.few_ports kept.busy.few_channels
         (slice_set r.outputs o u) sets.owes_all new.owes_all more sound_now.owed_fits leaving.owes_more left.owes_all
         kept.owes_all;
-    full = full_left r port vc i had now leaving.input (slice_set r.outputs o u) sets.full new.full more
-        leaving.owes_more left.full kept.full;
+    links = owing_left r.mesh r.node sets.owing new.owing port vc
+        (omega (arith, leaving.input.place.port_in, kept.busy.few_ports))
+        (omega (arith, leaving.input.place.channel_in, kept.busy.few_channels)) more leaving.owes_more
+        (subst (IsFiled sets.owing new.owing port vc) left.owes_here left.owing) kept.links;
+    full = full_left r port vc i had now leaving.input (slice_set r.outputs o u) sets.full new.full left.full kept.full;
     classes = kept.classes;
   }
 
 module _ (r : RouterState) (sets mid : BusyChannels) (asked : DemandView) (masks : List ℕ)
     (port vc i out out_vc o : ℕ) (had gone : ChannelState) (had_out : OutRecord) (f : Flit) (spent more : ℕ)
     (kept : IsKept r sets asked masks) (leaving : IsLeaving r sets port vc i out out_vc o had had_out spent more)
-    (is_out : IsOut r.depth sets mid port vc had gone f more) where
+    (is_out : IsOut r sets mid port vc had gone f more) where
   -- it closed its packet: both channels are free
   pub closed_kept : (now : ChannelState) (u : OutRecord) (outs : List (List (Option ℕ))) (now_asked : DemandView)
       → now ≡ in_state gone Idle → u ≡ record { holder = None; credits = had_out.credits - spent }
@@ -208,6 +214,7 @@ module _ (r : RouterState) (sets mid : BusyChannels) (asked : DemandView) (masks
         occupied = subst (λ (c : ChannelState). IsFiled sets.occupied mid.occupied port vc (is_occupied c)) (sym now_is)
             is_out.occupied;
         owing = subst (λ (c : ChannelState). IsFiled sets.owing mid.owing port vc (owes c)) (sym now_is) is_out.owing;
+        owes_here = ap owes now_is ∙ is_out.owes_here;
         owes_all = subst (λ (c : ChannelState). IsFiled sets.owes_all mid.owes_all port vc
             (nat_lt r.depth (c.owed + more))) (sym now_is) is_out.owes_all;
         full = is_out.full;
@@ -231,6 +238,7 @@ module _ (r : RouterState) (sets mid : BusyChannels) (asked : DemandView) (masks
         holder = ap (λ (w : OutRecord). w.holder) u_is;
         occupied = is_out.occupied;
         owing = is_out.owing;
+        owes_here = is_out.owes_here;
         owes_all = is_out.owes_all;
         full = is_out.full;
         outs = ap (λ (b : BusyChannels). b.outs) is_out.others;

@@ -14,7 +14,7 @@ use Rattle.worm_flit.proofs.SmallSets.{has_none}
 use Rattle.worm_records.specs.declared.OutRecord.{OutRecord}
 use Rattle.worm_swalloc.specs.SwAlloc.{SwAllocState}
 use Rattle.worm_vcalloc.specs.VcAlloc.{VcAllocState}
-use Rattle.worm_router.specs.Router.{RouterState, ChannelState, credit_of, terminal, width, line, fresh_channel}
+use Rattle.worm_router.specs.Router.{RouterState, ChannelState, terminal, width, line, fresh_channel}
 use Rattle.worm_router.specs.Busy.{AreFull, IsFull}
 use Rattle.worm_router.proofs.Accepted.{IsPut as IsTaken}
 use Rattle.worm_router.proofs.Places.{IsInput}
@@ -77,16 +77,17 @@ module _ (r : RouterState) (port vc i : ℕ) (had now : ChannelState) (input : I
   full_kept same flits = full_stay same (subst (λ (fs : List Flit). r.depth ≤ length fs) (sym flits))
 
   -- a flit has left it: where that had been fed none is in the set, and else it is no injection buffer
-  pub full_left : (more : ℕ) → more ≡ credit_of r port → new ≡ (if more == 0 then 0 else old) → AreFull r old
+  pub full_left : new ≡ (if port == terminal r then 0 else old) → AreFull r old
       → AreFull (record r { inputs = slice_set r.inputs i now; outputs = outputs }) new
-  full_left more costs new_is those = by (more == 0) refl new_is where
-    fed_there : (k : ℕ) → IsFull r k → line r (terminal r) (first_channel r.channels k) ≡ i → (more == 0) ≡ true
+  full_left new_is those = by (port == terminal r) refl new_is where
+    fed_there : (k : ℕ) → IsFull r k → line r (terminal r) (first_channel r.channels k) ≡ i
+        → (port == terminal r) ≡ true
     fed_there k known at =
         let place = same_from_place (terminal r) (first_channel r.channels k) port vc (width r) known.channel_in
         input.place.channel_in (at ∙ input.at) in
-        eq-eqb more 0 (costs ∙ ap (λ b. if b then 0 else 1) (eq-eqb port (terminal r) (sym place.0)))
+        eq-eqb port (terminal r) (sym place.0)
 
-    by : (b : Bool) → (more == 0) ≡ b → new ≡ (if b then 0 else old)
+    by : (b : Bool) → (port == terminal r) ≡ b → new ≡ (if b then 0 else old)
         → AreFull (record r { inputs = slice_set r.inputs i now; outputs = outputs }) new
     by true fed none = λ k k_in there.
         let no : true ≡ false = sym there ∙ has_none new k (eq-eqb new 0 none) in absurd (cc)

@@ -14,7 +14,7 @@ use Rattle.worm_records.specs.declared.InRecord.TheVariants.{Idle, Waiting, Acti
 use Rattle.worm_records.specs.declared.OutRecord.{OutRecord}
 use Rattle.worm_vcalloc.specs.ChannelSet.{has}
 use Rattle.worm_router.specs.Router.{RouterState, ChannelState, IsPlace, IsRouter, StateFits, terminal, width, line}
-use Rattle.worm_router.specs.Router.{free_output, input_at, output_at, leaving, leaving_by, credit_of}
+use Rattle.worm_router.specs.Router.{free_output, input_at, is_linked, output_at, leaving, leaving_by, credit_of}
 use Rattle.worm_router.specs.Busy.{AreHolders, IsHolder, LackCredit, IsFiled, lacks_credit}
 use Rattle.worm_router.proofs.Leaving.{channel_at}
 use Rattle.worm_router.proofs.Places.{IsInput, IsOutput}
@@ -75,7 +75,7 @@ leaves_with_credit r port vc set d place those leaves =
       by c (Active o v) [] is = absurd (cc)
       by c (Active o v) (f ∷ fs) is =
           first_true (o == terminal r || nat_lt 0 (output_at r o v).credits)
-          (port == terminal r || nat_lt c.owed r.depth) d o (with_channel f v) is
+          (not (is_linked r port) || nat_lt c.owed r.depth) d o (with_channel f v) is
 
 -- ---- one input channel is written
 

@@ -1,5 +1,5 @@
 -- What is there for a flit that may leave.
-use Rattle.std.proofs.Common.{ap, sym, ◌∙◌, slice_get, ℕ, ◌≤◌, ◌<◌, ◌≡◌, ◌==◌, ◌&&◌, ◌||◌, nat_lt, List}
+use Rattle.std.proofs.Common.{ap, sym, ◌∙◌, slice_get, ℕ, ◌≤◌, ◌<◌, ◌≡◌, ◌==◌, ◌&&◌, ◌||◌, nat_lt, not, List}
 use Rattle.std.proofs.Common.{[], ◌∷◌, length, All, Bool, true, false, Some, None, arith, refl, subst, if◌then◌else◌}
 use Rattle.std.proofs.lemmas.Bool.Decides.{nat_tests}
 use Rattle.std.proofs.lemmas.List.Elements.{All-get_or}
@@ -10,7 +10,8 @@ use Rattle.worm_records.specs.declared.InRecord.{InRecord}
 use Rattle.worm_records.specs.declared.InRecord.TheVariants.{Idle, Waiting, Active}
 use Rattle.worm_vcalloc.specs.ChannelSet.{has}
 use Rattle.worm_router.specs.Router.{RouterState, ChannelState, IsRouter, IsChannel, IsPlace, StateFits, MayLeave}
-use Rattle.worm_router.specs.Router.{terminal, width, line, fresh_channel, input_at, output_at, leaving, leaving_by}
+use Rattle.worm_router.specs.Router.{terminal, width, line, fresh_channel, input_at, is_linked, output_at, leaving}
+use Rattle.worm_router.specs.Router.{leaving_by}
 use Rattle.worm_router.specs.Busy.{IsSetOf, is_occupied}
 use Rattle.worm_router.proofs.Laws.{line-places}
 
@@ -25,7 +26,7 @@ leaves_by : (r : RouterState) (port vc o v : ℕ) (f : Flit) (fs : List Flit) (d
     → StateFits (terminal r) (width r) (Active o v) → f.lane.dst < node_count r.mesh
     → (input_at r port vc).owed ≤ r.depth
     → ((o == terminal r || nat_lt 0 (output_at r o v).credits) &&
-    (port == terminal r || nat_lt (input_at r port vc).owed r.depth)) ≡ b
+    (not (is_linked r port) || nat_lt (input_at r port vc).owed r.depth)) ≡ b
     → (if b then Some (o, with_channel f v) else None) ≡ Some d → MayLeave r port vc d
 leaves_by r port vc o v f fs d true fits bound owes e is =
     let same : (o, with_channel f v) ≡ d = cc in
@@ -47,7 +48,7 @@ may_leave_by r port vc (Waiting o) fs d fits bound owes is = absurd (cc)
 may_leave_by r port vc (Active o v) [] d fits bound owes is = absurd (cc)
 may_leave_by r port vc (Active o v) (f ∷ fs) d fits bound owes is =
     leaves_by r port vc o v f fs d ((o == terminal r || nat_lt 0 (output_at r o v).credits) &&
-    (port == terminal r || nat_lt (input_at r port vc).owed r.depth)) fits
+    (not (is_linked r port) || nat_lt (input_at r port vc).owed r.depth)) fits
     (bound 0 f (omega arith)) owes refl is
 
 pub may_leave : (r : RouterState) (port vc : ℕ) (d : ℕ × Flit) → IsRouter r → IsPlace r port vc
@@ -64,7 +65,7 @@ leaves_by_state r port c Idle fs d is = absurd (cc)
 leaves_by_state r port c (Waiting o) fs d is = absurd (cc)
 leaves_by_state r port c (Active o v) [] d is = absurd (cc)
 leaves_by_state r port c (Active o v) (f ∷ fs) d is =
-    by_test ((o == terminal r || nat_lt 0 (output_at r o v).credits) && (port == terminal r || nat_lt c.owed r.depth))
+    by_test ((o == terminal r || nat_lt 0 (output_at r o v).credits) && (not (is_linked r port) || nat_lt c.owed r.depth))
     is where
       by_test : (b : Bool) → (if b then Some (o, with_channel f v) else None) ≡ Some d → Active o v ≡ Active d.0 d.1.vc
       by_test true e = let pair : (o, with_channel f v) ≡ d = cc in ap (λ (k : ℕ × Flit). Active k.0 k.1.vc) pair
@@ -74,7 +75,7 @@ leaves_by_state r port c (Active o v) (f ∷ fs) d is =
 pub leaving_is : (r : RouterState) (port vc out out_vc : ℕ) (c : ChannelState) (front : Flit) (credit owe : Bool)
     → c ≡ input_at r port vc → c.state ≡ Active out out_vc
     → slice_get c.buffer 0 ≡ Some front → credit ≡ (out == terminal r || nat_lt 0 (output_at r out out_vc).credits)
-    → owe ≡ (port == terminal r || nat_lt c.owed r.depth)
+    → owe ≡ (not (is_linked r port) || nat_lt c.owed r.depth)
     → leaving r port vc ≡ (if credit && owe then Some (out, with_channel front out_vc) else None)
 leaving_is r port vc out out_vc c front credit owe is active first a b =
     ap (λ (x : ChannelState). leaving_by r port x x.state x.buffer) (sym is)
@@ -86,8 +87,8 @@ leaving_is r port vc out out_vc c front credit owe is active first a b =
       by_buffer (f ∷ fs) e =
           let same : f ≡ front = cc in
           ap (λ g. if (out == terminal r || nat_lt 0 (output_at r out out_vc).credits) &&
-          (port == terminal r || nat_lt c.owed r.depth) then Some (out, with_channel g out_vc) else None) same
-          ∙ ap (λ k. if k && (port == terminal r || nat_lt c.owed r.depth) then Some (out, with_channel front out_vc)
+          (not (is_linked r port) || nat_lt c.owed r.depth) then Some (out, with_channel g out_vc) else None) same
+          ∙ ap (λ k. if k && (not (is_linked r port) || nat_lt c.owed r.depth) then Some (out, with_channel front out_vc)
           else None) (sym a)
           ∙ ap (λ k. if credit && k then Some (out, with_channel front out_vc) else None) (sym b)
 

@@ -9,28 +9,28 @@ use Rattle.worm_records.specs.declared.InRecord.{InRecord}
 use Rattle.worm_records.specs.declared.InRecord.TheVariants.{Idle, Waiting, Active}
 use Rattle.worm_records.specs.declared.OutRecord.{OutRecord}
 use Rattle.worm_vcalloc.specs.ChannelSet.{has}
-use Rattle.worm_router.specs.Router.{RouterState, ChannelState, IsPlace, credit_of, terminal, width, input_at}
-use Rattle.worm_router.specs.Router.{output_at, leaving, leaving_by}
+use Rattle.worm_router.specs.Router.{RouterState, ChannelState, IsPlace, owed_for, terminal, width, input_at}
+use Rattle.worm_router.specs.Router.{is_linked, output_at, leaving, leaving_by}
 use Rattle.worm_router.specs.Busy.{IsFiled, OweAll, owes_all}
 use Rattle.worm_router.proofs.Places.{IsInput}
 use Rattle.worm_router.proofs.Those.{those_filed, those_stay}
 
 -- one that may owe no more: a flit more would be past the depth
-past_depth : (is_terminal : Bool) (owed depth : ℕ) → owed ≤ depth
-    → nat_lt depth (owed + (if is_terminal then 0 else 1)) ≡ not (is_terminal || nat_lt owed depth)
+past_depth : (linked : Bool) (owed depth : ℕ) → owed ≤ depth
+    → nat_lt depth (owed + (if linked then 1 else 0)) ≡ not (not linked || nat_lt owed depth)
 past_depth true owed depth fits = grind (arith, nat_tests)
 past_depth false owed depth fits = grind (arith, nat_tests)
 
-pub owes_past : (r : RouterState) (port owed more : ℕ) → owed ≤ r.depth → more ≡ credit_of r port
+pub owes_past : (r : RouterState) (port owed more : ℕ) → owed ≤ r.depth → more ≡ owed_for r port
     → nat_lt r.depth (owed + more) ≡ owes_all r port owed
 owes_past r port owed more fits costs =
-    ap (λ k. nat_lt r.depth (owed + k)) costs ∙ past_depth (port == terminal r) owed r.depth fits
+    ap (λ k. nat_lt r.depth (owed + k)) costs ∙ past_depth (is_linked r port) owed r.depth fits
 
 -- one that has given a credit owes less
 pub owes_less : (r : RouterState) (port owed : ℕ) → 0 < owed → owed ≤ r.depth → false ≡ owes_all r port (owed - 1)
 owes_less r port owed some fits =
     let room : nat_lt (owed - 1) r.depth ≡ true = grind (arith, nat_tests) in
-    none (port == terminal r) ∙ sym (ap (λ b. not (port == terminal r || b)) room) where
+    none (not (is_linked r port)) ∙ sym (ap (λ b. not (not (is_linked r port) || b)) room) where
       none : (b : Bool) → false ≡ not (b || true)
       none true = refl
       none false = refl
@@ -54,7 +54,7 @@ leaves_owing_less r port vc set d place those leaves =
       by c (Active o v) [] is = absurd (cc)
       by c (Active o v) (f ∷ fs) is =
           second_true (o == terminal r || nat_lt 0 (output_at r o v).credits)
-          (port == terminal r || nat_lt c.owed r.depth) d o (with_channel f v) is
+          (not (is_linked r port) || nat_lt c.owed r.depth) d o (with_channel f v) is
 
 -- one input channel is written
 module _ (r : RouterState) (port vc i : ℕ) (had now : ChannelState) (input : IsInput r port vc i had)
@@ -73,7 +73,7 @@ module _ (r : RouterState) (port vc i : ℕ) (had now : ChannelState) (input : I
       (ap (owes_all r port) owed)
 
   -- it has let a flit out
-  pub owe_left : (more : ℕ) → now.owed ≤ r.depth → more ≡ credit_of r port
+  pub owe_left : (more : ℕ) → now.owed ≤ r.depth → more ≡ owed_for r port
       → IsFiled old new port vc (nat_lt r.depth (now.owed + more)) → OweAll r old
       → OweAll (record r { inputs = slice_set r.inputs i now; outputs = outputs }) new
   owe_left more fits costs filed those =
@@ -90,7 +90,7 @@ module _ (r : RouterState) (port vc i : ℕ) (had now : ChannelState) (input : I
 pub owes_none : (r : RouterState) (port : ℕ) → 1 ≤ r.depth → owes_all r port 0 ≡ false
 owes_none r port some =
     let room : nat_lt 0 r.depth ≡ true = grind (arith, nat_tests) in
-    ap (λ b. not (port == terminal r || b)) room ∙ none (port == terminal r) where
+    ap (λ b. not (not (is_linked r port) || b)) room ∙ none (not (is_linked r port)) where
       none : (b : Bool) → not (b || true) ≡ false
       none true = refl
       none false = refl

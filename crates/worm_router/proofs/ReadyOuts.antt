@@ -14,7 +14,7 @@ use Rattle.worm_vcalloc.proofs.PassAgrees.{none_where_not_some}
 use Rattle.worm_vcalloc.proofs.SetMembers.{has-empty}
 use Rattle.worm_vcalloc.proofs.TableRows.{same_tables, cell-table, IsTable-table}
 use Rattle.worm_router.specs.Router.{RouterState, ChannelState, IsPlace, terminal, width, input_at, output_at}
-use Rattle.worm_router.specs.Router.{leaving, leaving_by}
+use Rattle.worm_router.specs.Router.{is_linked, leaving, leaving_by}
 use Rattle.worm_router.specs.Allocation.{within, ready_at, ready_outs}
 use Rattle.worm_router.specs.Demand.{DemandView}
 use Rattle.worm_router.specs.declared.busy.BusyChannels.{BusyChannels}
@@ -55,10 +55,10 @@ ready_parts r p c (Waiting o) fs = none_none (nat_lt 0 (length fs)) (free r p (W
 ready_parts r p c (Active o v) [] = refl
 ready_parts r p c (Active o v) (f ∷ fs) =
     let some : nat_lt 0 (length (f ∷ fs)) ≡ true = grind (arith, nat_tests) in
-    out_if ((o == terminal r || nat_lt 0 (output_at r o v).credits) && (p == terminal r || nat_lt c.owed r.depth)) o v f
+    out_if ((o == terminal r || nat_lt 0 (output_at r o v).credits) && (not (is_linked r p) || nat_lt c.owed r.depth)) o v f
     ∙ sym (ap (λ b. if not (lacks_credit r (Active o v)) && b then Some o else None)
-    (not_not (p == terminal r || nat_lt c.owed r.depth))
-    ∙ ap (λ b. if b && (p == terminal r || nat_lt c.owed r.depth) then Some o else None)
+    (not_not (not (is_linked r p) || nat_lt c.owed r.depth))
+    ∙ ap (λ b. if b && (not (is_linked r p) || nat_lt c.owed r.depth) then Some o else None)
     (not_not (o == terminal r || nat_lt 0 (output_at r o v).credits)))
     ∙ sym (ap (λ b. if b then (if free r p (Active o v) c.owed then Some o else None) else None) some)
 
@@ -185,5 +185,5 @@ pub leaves_by_hold : (r : RouterState) (port vc out out_vc : ℕ) (c : ChannelSt
 leaves_by_hold r port vc out out_vc c front some is active first =
     leaves ∙ some_if _ (out, with_channel front out_vc) (subst IsSome leaves some) where
       leaves : leaving r port vc ≡ (if (out == terminal r || nat_lt 0 (output_at r out out_vc).credits) &&
-          (port == terminal r || nat_lt c.owed r.depth) then Some (out, with_channel front out_vc) else None)
+          (not (is_linked r port) || nat_lt c.owed r.depth) then Some (out, with_channel front out_vc) else None)
       leaves = leaving_is r port vc out out_vc c front _ _ is active first refl refl

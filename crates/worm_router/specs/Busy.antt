@@ -4,6 +4,7 @@ use Rattle.std.specs.Prelude.{ℕ, ◌+◌, ◌*◌, ◌<◌, ◌≤◌, ◌≡�
 use Rattle.std.specs.Prelude.{slice_index, slice_index_or, All, Option, Some, None, is_some, not}
 use Rattle.worm_flit.specs.Channels.{AreChannels, class_bits, first_channel}
 use Rattle.worm_flit.specs.SmallSet.{has as has_small}
+use Rattle.worm_mesh.specs.Address.{neighbour_of}
 use Rattle.worm_records.specs.declared.InRecord.{InRecord}
 use Rattle.worm_records.specs.declared.InRecord.TheVariants.{Idle, Waiting, Active}
 use Rattle.worm_vcalloc.specs.ChannelSet.{has}
@@ -13,7 +14,7 @@ use Rattle.worm_router.specs.Allocation.{within}
 use Rattle.worm_router.specs.Demand.{DemandView, IsDemandOf}
 use Rattle.worm_router.specs.declared.busy.BusyChannels.{BusyChannels}
 use Rattle.worm_router.specs.Router.{ChannelState, RouterState, IsRouter, terminal, width, fresh_channel}
-use Rattle.worm_router.specs.Router.{input_at, is_idle, output_at}
+use Rattle.worm_router.specs.Router.{input_at, is_idle, is_linked, output_at}
 
 -- an input channel has a flit
 abbrev pub is_occupied : ChannelState → Bool
@@ -96,7 +97,7 @@ lacks_credit r (Active o c) = not (o == terminal r || nat_lt 0 (output_at r o c)
 
 -- so many credits owed by a channel of this port leave no room for one more
 abbrev pub owes_all : RouterState → ℕ → ℕ → Bool
-owes_all r port owed = not (port == terminal r || nat_lt owed r.depth)
+owes_all r port owed = not (not (is_linked r port) || nat_lt owed r.depth)
 
 -- a set has those channels of a router that pass a test, and none of its others
 pub record AreThose (test : ℕ → ChannelState → Bool) (r : RouterState) (set : ℕ) : Type 0 where
@@ -109,6 +110,10 @@ LackCredit r set = AreThose (λ p c. lacks_credit r c.state) r set
 -- a set has those that owe all that they may
 abbrev pub OweAll : RouterState → ℕ → Type 0
 OweAll r set = AreThose (λ p c. owes_all r p c.owed) r set
+
+-- a set has channels of those ports alone that face a link
+pub record OweByLinks (mesh : List ℕ) (node set : ℕ) : Type 0 where
+  pub each : (p v : ℕ) → p < 7 → v < 8 → has set p v ≡ true → is_some (neighbour_of mesh node p) ≡ true
 
 -- the injection buffer of a class is full: its flits are fed on its first channel
 pub record IsFull (r : RouterState) (class : ℕ) : Type 0 where
@@ -156,5 +161,6 @@ pub record IsKept (r : RouterState) (sets : BusyChannels) (asked : DemandView) (
   pub outs : sets.outs ≡ held_outs r
   pub no_credit : LackCredit r sets.no_credit
   pub owes_all : OweAll r sets.owes_all
+  pub links : OweByLinks r.mesh r.node sets.owing
   pub full : AreFull r sets.full
   pub classes : AreMasks r.channels masks

@@ -1,12 +1,12 @@
 -- What a contract sees of a router, and what each call makes of it (Dally and Towles, chapters 13, 16 and 19).
 use Rattle.std.specs.Prelude.{ℕ, ◌+◌, ◌-◌, ◌*◌, ◌≤◌, ◌<◌, ◌≡◌, ◌==◌, Bool, true, false, ◌&&◌, ◌||◌, nat_lt, is_none}
 use Rattle.std.specs.Prelude.{if◌then◌else◌, List, [], ◌∷◌, ◌++◌, length, sum, drop, slice_index_or, slice_set}
-use Rattle.std.specs.Prelude.{replicate, All, Option, None, Some}
+use Rattle.std.specs.Prelude.{replicate, All, Option, None, Some, is_some, not}
 use Rattle.worm_flit.specs.declared.Flit.{Flit}
 use Rattle.worm_flit.specs.Kinds.{opens, closes}
 use Rattle.worm_flit.specs.Stamps.{with_channel}
 use Rattle.worm_flit.specs.Channels.{owns}
-use Rattle.worm_mesh.specs.Address.{node_count}
+use Rattle.worm_mesh.specs.Address.{neighbour_of, node_count}
 use Rattle.worm_route.specs.Route.{port_of}
 use Rattle.worm_records.specs.declared.InRecord.{InRecord}
 use Rattle.worm_records.specs.declared.InRecord.TheVariants.{Idle, Waiting, Active}
@@ -41,6 +41,10 @@ terminal r = 2 * length r.mesh
 -- the number of channels of a port
 abbrev pub width : RouterState → ℕ
 width r = sum r.channels
+
+-- the port faces a link: the node has a neighbour there
+abbrev pub is_linked : RouterState → ℕ → Bool
+is_linked r port = is_some (neighbour_of r.mesh r.node port)
 
 -- the number of places in each list
 abbrev pub places : RouterState → ℕ
@@ -178,7 +182,7 @@ leaving_by r port c Idle fs = None
 leaving_by r port c (Waiting o) fs = None
 leaving_by r port c (Active o v) [] = None
 leaving_by r port c (Active o v) (f ∷ fs) =
-    if (o == terminal r || nat_lt 0 (output_at r o v).credits) && (port == terminal r || nat_lt c.owed r.depth)
+    if (o == terminal r || nat_lt 0 (output_at r o v).credits) && (not (is_linked r port) || nat_lt c.owed r.depth)
     then Some (o, with_channel f v)
     else None
 
@@ -202,9 +206,13 @@ abbrev pub passed : OutRecord → Flit → ℕ → OutRecord
 passed o f spent =
     record { holder = (if closes f.kind then None else o.holder); credits = o.credits - spent }
 
--- 1 for a port that faces a link, 0 for the terminal
+-- what a flit that leaves by the output port costs: a credit, but none at the terminal
 abbrev pub credit_of : RouterState → ℕ → ℕ
 credit_of r port = if port == terminal r then 0 else 1
+
+-- what is owed for a flit that leaves the input port: a credit where the port faces a link
+abbrev pub owed_for : RouterState → ℕ → ℕ
+owed_for r port = if is_linked r port then 1 else 0
 
 -- what is there for a flit that may leave by the port d.0
 pub record MayLeave (r : RouterState) (port vc : ℕ) (d : ℕ × Flit) : Type 0 where
@@ -212,13 +220,13 @@ pub record MayLeave (r : RouterState) (port vc : ℕ) (d : ℕ × Flit) : Type 0
   pub channel_in : d.1.vc < width r
   pub bound_for_node : d.1.lane.dst < node_count r.mesh
   pub has_credit : credit_of r d.0 ≤ (output_at r d.0 d.1.vc).credits
-  pub may_owe : (input_at r port vc).owed + credit_of r port ≤ r.depth
+  pub may_owe : (input_at r port vc).owed + owed_for r port ≤ r.depth
 
 abbrev pub after_leaving : RouterState → ℕ → ℕ → Option (ℕ × Flit) → RouterState
 after_leaving r port vc None = r
 after_leaving r port vc (Some d) =
     with_output
-    (with_input r port vc (let_out (input_at r port vc) d.1 (credit_of r port)))
+    (with_input r port vc (let_out (input_at r port vc) d.1 (owed_for r port)))
     d.0 d.1.vc
     (passed (output_at r d.0 d.1.vc) d.1 (credit_of r d.0))
 

@@ -6,7 +6,7 @@ ghost use Rattle.worm_mesh.specs.Address.{node_count};
 ghost use Rattle.worm_records.specs.declared.InRecord.TheVariants.{Waiting};
 ghost use Rattle.worm_router.specs.Router.{IsPlace, line, fresh_router, input_at};
 ghost use Rattle.worm_router.specs.Router.{output_at, terminal, width, after_accept, can_route, after_route, can_grant};
-ghost use Rattle.worm_router.specs.Router.{after_grant, after_granting, leaving, MayLeave, credit_of};
+ghost use Rattle.worm_router.specs.Router.{after_grant, after_granting, leaving, MayLeave, credit_of, owed_for};
 ghost use Rattle.worm_router.specs.Router.{after_send, after_gave, after_credit};
 
 mod allocation;
@@ -132,6 +132,14 @@ impl Router {
         ensures bound { result ≤ 6 }
     {
         self.routes.terminal()
+    }
+
+    fn owed_for(&self, port: u8) -> u8
+        requires { port ≤ terminal self.now }
+        ensures value { result ≡ owed_for self.now port }
+        ensures bound { result ≤ 1 }
+    {
+        if self.routes.is_linked(port) { 1 } else { 0 }
     }
 
     fn credit_of(&self, port: u8) -> u8
@@ -298,8 +306,8 @@ impl Router {
         Some(self.next_out(port, vc))
     }
 
-    /// The flit that `ready` names has left. A credit is spent and one is owed, except at the terminal. A closing
-    /// flit frees both channels.
+    /// The flit that `ready` names has left. A credit is spent, but at the terminal, and one is owed where its input
+    /// port has a link. A closing flit frees both channels.
     #[inline(always)]
     pub fn sent(&mut self, port: u8, vc: u8)
         requires place { IsPlace self.old port vc }
@@ -318,7 +326,8 @@ impl Router {
     {
         let i = self.line(port, vc);
         let o = self.line(out, flit.vc);
-        let more_owed = self.credit_of(port);
+        let more_owed = self.owed_for(port);
+        let fed = port == self.terminal();
         let spent = self.credit_of(out);
         let channel = &mut self.inputs[i];
         channel.let_out(flit, more_owed);
@@ -331,7 +340,7 @@ impl Router {
         self.busy.owing.insert_if(port, vc, more_owed > 0);
         let owes_all = channel.owed() + more_owed > self.depth;
         self.busy.owes_all.insert_if(port, vc, owes_all);
-        self.busy.forget_full(more_owed == 0);
+        self.busy.forget_full(fed);
         if is_closing(flit.kind) {
             channel.close();
             output.release();

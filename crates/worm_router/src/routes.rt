@@ -1,12 +1,14 @@
-//! The output port of the route from a node to each node of its mesh: looked up at each packet, not worked out.
+//! The output port of the route from a node to each node of its mesh, and the ports that face a link: looked up at
+//! each packet and each flit, not worked out.
 
-ghost use Rattle.std.specs.Prelude.{◌≡◌, ℕ, ◌+◌, ◌*◌, ◌%◌, ◌≤◌, ◌<◌, length, IfOk};
-ghost use Rattle.worm_mesh.specs.Address.{digit_of, node_count};
+ghost use Rattle.std.specs.Prelude.{◌≡◌, ℕ, ◌+◌, ◌*◌, ◌%◌, ◌≤◌, ◌<◌, length, is_some, IfOk};
+ghost use Rattle.worm_mesh.specs.Address.{AreRadices, digit_of, neighbour_of, node_count};
 ghost use Rattle.worm_route.specs.Route.{port_of};
-ghost use Rattle.worm_router.specs.Routes.{AreRoutes};
+ghost use Rattle.worm_router.specs.Routes.{AreLinked, AreRoutes};
 
 use std::alloc::{AllocError, Global};
 use std::marker::Model;
+use worm_flit::SmallSet;
 use worm_mesh::Mesh;
 use worm_route::next_port;
 
@@ -15,17 +17,19 @@ use worm_route::next_port;
 pub struct Routes {
     mesh: Mesh,
     node: u8,
+    /// The ports by which the node has a neighbour.
+    linked: SmallSet,
     table: Vec<u8>,
 }
 
 impl Model for Routes {
-    ghost use Rattle.worm_router.specs.Routes.{RoutesView, AreRoutes};
+    ghost use Rattle.worm_router.specs.Routes.{RoutesView, AreLinked, AreRoutes};
 
     ghost Value = { RoutesView };
 
     ghost view = { λ r. record { mesh = r.mesh; node = r.node } };
 
-    ghost invariant = { λ r. AreRoutes r.mesh r.node r.table.items };
+    ghost invariant = { λ r. AreRoutes r.mesh r.node r.table.items × AreLinked r.mesh r.node r.linked };
 }
 
 impl Routes {
@@ -35,8 +39,14 @@ impl Routes {
         ensures { IfOk result (λ r. r ≡ record { mesh = mesh.now; node = node }) }
     {
         let table = make_table(alloc, mesh, node)?;
+        let linked = linked_ports(mesh, node);
         let mesh = *mesh;
-        Ok(Routes { mesh, node, table })
+        Ok(Routes {
+            mesh,
+            node,
+            linked,
+            table,
+        })
     }
 
     /// The port of the route to a node.
@@ -49,6 +59,15 @@ impl Routes {
         self.table[usize::from(dst)]
     }
 
+    /// Whether the node has a neighbour by the port.
+    #[inline(always)]
+    pub fn is_linked(&self, port: u8) -> bool
+        requires { port < 8 }
+        ensures { result ≡ is_some (neighbour_of self.now.mesh self.now.node port) }
+    {
+        self.linked.contains(port)
+    }
+
     /// The port of a route that has arrived.
     #[inline(always)]
     pub fn terminal(&self) -> u8
@@ -57,6 +76,16 @@ impl Routes {
     {
         2 * self.mesh.dims()
     }
+}
+
+fn linked_ports(mesh: &Mesh, node: u8) -> SmallSet
+    ensures { AreLinked mesh.now node result }
+{
+    let mut linked = SmallSet::new();
+    for port in 0..8u8 {
+        linked.put(port, mesh.neighbour(node, port).is_some());
+    }
+    linked
 }
 
 /// The lowest digit of each node is counted: where it is not this node's own, it tells the port.

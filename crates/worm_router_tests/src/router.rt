@@ -106,6 +106,20 @@ fn sets_follow_a_packet(rt: HostRuntime) {
     trial.has_owing(&[]);
 }
 
+/// Port 1 of node 1 of two faces no link, so nobody is owed a credit for what came in there; nor at the terminal.
+#[test]
+fn a_port_without_a_link_owes_nothing(rt: HostRuntime) {
+    let mut trial = Trial::new(rt, 1, &[1], 1);
+    for port in [1, 2] {
+        trial.accepts(port, flit(0, 0));
+        trial.routes(port, 0);
+        trial.allocates(&[(port, 0, Some(0))]);
+        trial.sends(port, 0);
+        trial.owes(port, 0, 0);
+        trial.has_owing(&[]);
+    }
+}
+
 /// A router that owes a credit is not at rest.
 #[test]
 fn room_and_rest_are_told(rt: HostRuntime) {

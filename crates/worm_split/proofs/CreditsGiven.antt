@@ -6,6 +6,7 @@ use Rattle.std.specs.Option.{option_to_list}
 use Rattle.worm_vcalloc.specs.ChannelSet.{IsFirstPort, IsLowest}
 use Rattle.worm_mesh.specs.Address.{node_count}
 use Rattle.worm_router.specs.Router.{width, after_gave}
+use Rattle.worm_region.specs.Shape.{net_shape}
 use Rattle.worm_region.specs.State.{NetState, router_at, with_router}
 use Rattle.worm_region.specs.Moves.{OwesTheSame}
 use Rattle.worm_region.specs.Turns.{Each}
@@ -74,6 +75,7 @@ Gave x a b owing = Owing (Given x a b) x (2 * length a.net.mesh) owing b.net
 
 pub gave_more : (x : ℕ) (a b d : PartState) (owing new q c : ℕ) → Gave x a b owing → IsFirstPort owing new q
     → IsLowest owing q c → Gives x q c b None d → IsSamePart b d → IsWorkable d.net → Gave x a d new
+unfolding net_shape
 gave_more x a b d owing new q c gave first lowest gives same sound =
     let next = owing_next gave first lowest in
     let place = owing_place gave first in
@@ -83,4 +85,4 @@ gave_more x a b d owing new q c gave first lowest gives same sound =
       each = of_more (GivesCredit x) q a b d given.each (one_gives x q c b d next.lowest gives);
       same = same_on a b d given.same same;
     })
-    (gives_elsewhere x q c b d gave.sound gave.there (omega (arith, place.1)) next.channel_in gives)
+    (gives_elsewhere x q c b d gave.sound gave.there (omega (arith, place.1)) next.there.2 gives)

@@ -1,7 +1,7 @@
 -- What goes by a part's end: a flit over a link that leaves its nodes, a credit over one that enters them.
 use Rattle.std.proofs.Common.{◌≡◌, ℕ, ◌<◌, ◌≤◌, ◌==◌, ◌&&◌, ◌||◌, true, false, inl, inr, List, [], ◌∷◌, ◌++◌, length}
 use Rattle.std.proofs.Common.{sum, get_or, Option, Some, None, refl, sym, ap, subst, ◌∙◌}
-use Rattle.std.specs.Prelude.{slice_set, nat_lt}
+use Rattle.std.specs.Prelude.{not, slice_set, nat_lt}
 use Rattle.std.proofs.lemmas.List.{set-get_or}
 use Rattle.worm_flit.specs.declared.Flit.{Flit}
 use Rattle.worm_flit.specs.Stamps.{on_channel, with_channel}
@@ -12,8 +12,8 @@ use Rattle.worm_records.specs.declared.InRecord.{InRecord}
 use Rattle.worm_records.specs.declared.InRecord.TheVariants.{Idle, Waiting, Active}
 use Rattle.worm_links.specs.declared.LinkCfg.{LinkCfg}
 use Rattle.worm_links.specs.Links.{TxView, RxView, CreditTxView, CreditRxView, MayCross, link_capacity}
-use Rattle.worm_router.specs.Router.{RouterState, input_at, output_at, terminal, leaving, leaving_by}
-use Rattle.worm_router.specs.Router.{after_send, after_gave}
+use Rattle.worm_router.specs.Router.{RouterState, input_at, is_linked, output_at, terminal, leaving}
+use Rattle.worm_router.specs.Router.{leaving_by, after_send, after_gave}
 use Rattle.worm_theory.specs.Shape.{Shape}
 use Rattle.worm_theory.specs.Steps.{IsLinked, Send, GiveCredit, IsThere, Enabled, FrontIs, after}
 use Rattle.worm_theory.proofs.Places.{bool_cases}
@@ -60,7 +60,7 @@ ready_of s x p v o flit place (Active q c) [] e b by = let no_flit : ◌≡◌ {
 ready_of s x p v o flit place (Active q c) (f ∷ rest) e b by =
     let r = router_at s x in
     let test = (q == terminal r || nat_lt 0 (output_at r q c).credits) &&
-    (p == terminal r || nat_lt (input_at r p v).owed r.depth) in
+    (not (is_linked r p) || nat_lt (input_at r p v).owed r.depth) in
     elim (bool_cases test) [
       | inr shut ↦ let none : ◌≡◌ {A = Option (ℕ × Flit)} None (Some (o, flit)) = rw shut at by in absurd (cc)
       | inl may ↦

@@ -16,7 +16,7 @@ use Rattle.worm_swalloc.specs.SwAlloc.{named_channel, request_of}
 use Rattle.worm_swalloc.proofs.FrontGiven.{slice_index_or-with_front_below, slice_index_or-with_front_past}
 use Rattle.worm_swalloc.proofs.SwitchPass.{get_or-replicate_same}
 use Rattle.worm_router.specs.Allocation.{ready_at, ready_outs, switch_grants}
-use Rattle.worm_router.specs.Router.{RouterState, IsPlace, after_leaving, input_at, leaving, let_out, credit_of}
+use Rattle.worm_router.specs.Router.{RouterState, IsPlace, after_leaving, input_at, leaving, let_out, owed_for}
 use Rattle.worm_router.proofs.TableRows.{cell_has}
 use Rattle.worm_router.proofs.Laws.{input_at-other}
 use Rattle.worm_router.proofs.Leaving.{leaves_by_state}
@@ -45,7 +45,7 @@ holding_still r p v (Some d) q g here away holding =
       place = record { port_in = holding.place.port_in; channel_in = holding.place.channel_in };
       channel = holding.channel;
       active = ap (λ c. c.state)
-          (input_at-other r p v q g.vc (let_out (input_at r p v) d.1 (credit_of r p)) here holding.place (inl away))
+          (input_at-other r p v q g.vc (let_out (input_at r p v) d.1 (owed_for r p)) here holding.place (inl away))
           ∙ holding.active;
     }
 

@@ -240,7 +240,7 @@ impl Part {
 
     fn give_within(&mut self, node: u8, port: u8, vc: u8)
         requires own { owned self.old.net node ≡ true }
-        requires channel { vc < sum self.old.net.channels }
+        requires there { IsThere (shape self.old.net) (Event.GiveCredit node port vc) }
         requires owed { 0 < (input_at (router_at self.old.net node) port vc).owed }
         requires stays { ComesBy self.old node port → ⊥ }
         ensures gives { Within (Attempts (Event.GiveCredit node port vc)) self.old None self.new }
@@ -251,14 +251,12 @@ impl Part {
 
     fn give<R: Wait>(&mut self, rt: &R, node: u8, port: u8, vc: u8)
         requires own { owned self.old.net node ≡ true }
-        requires node { node < node_count self.old.net.mesh }
-        requires channel { vc < sum self.old.net.channels }
+        requires there { IsThere (shape self.old.net) (Event.GiveCredit node port vc) }
         requires owed { 0 < (input_at (router_at self.old.net node) port vc).owed }
         ensures gives { Gives node port vc self.old None self.new }
         ensures same { IsSamePart self.old self.new }
     {
         self.region.recall();
-        // A channel owes a credit only where its port has a link.
         let links = self.region.links_beyond(node, port);
         if is_entering(&self.ends[usize::from(links.into)]) {
             self.give_across(rt, node, port, vc);

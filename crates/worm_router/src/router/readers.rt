@@ -2,7 +2,7 @@
 
 ghost use Rattle.std.specs.Prelude.{◌≡◌, IfSome, IsSome, length, nat_lt, slice_get};
 ghost use Rattle.worm_router.specs.Router.{IsPlace, IsRouter, input_at, leaving, output_at, terminal};
-ghost use Rattle.worm_router.specs.Busy.{IsSetOf, is_active, is_occupied, is_waiting, lacks_route, owes};
+ghost use Rattle.worm_router.specs.Busy.{IsSetOf, OweByLinks, is_active, is_occupied, is_waiting, lacks_route, owes};
 
 use crate::router::Router;
 use worm_flit::Flit;
@@ -39,9 +39,10 @@ impl Router {
         flits.difference(&self.waiting()).difference(&self.active())
     }
 
-    /// The input channels that owe a credit.
+    /// The input channels that owe a credit. Their ports face links.
     pub fn owing(&self) -> ChannelSet
-        ensures { IsSetOf owes self.now result }
+        ensures owing { IsSetOf owes self.now result }
+        ensures links { OweByLinks self.now.mesh self.now.node result }
     {
         self.busy.owing
     }

@@ -35,9 +35,8 @@ owed_count-requires c =
     (place_inside _ c.args.self.now c.args.node c.args.port c.args.vc c.self.view_is c.self.invariant.framed
     (c.requires.there.0, inr c.requires.there.1, c.requires.there.2)).place
 
-pub give_owed-requires-clause-channel : goal.give_owed-requires-clause-channel
-unfolding net_shape
-give_owed-requires-clause-channel c = c.requires.there.2
+pub give_owed-requires-clause-there : goal.give_owed-requires-clause-there
+give_owed-requires-clause-there c = c.requires.there
 
 pub returns-then-owed_count-eq0 : goal.returns-then-owed_count-eq0
 unfolding net_shape

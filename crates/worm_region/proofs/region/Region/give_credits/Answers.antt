@@ -13,7 +13,8 @@ pub loop-port-init : goal.loop-port-init
 loop-port-init c =
     let set = c.owing-left in
     let a = c.args.self.now in
-    owing_start c.args.node set.result a set.ensures.sound c.requires.node set.ensures.owing (does_nothing a)
+    owing_start c.args.node set.result a set.ensures.sound c.requires.node set.ensures.owing
+    set.ensures.links (does_nothing a)
 
 pub returns : goal.returns
 returns c =
@@ -23,9 +24,9 @@ returns c =
     does_for mesh_ports (GivesCreditBy Attempts x) (2 * length a.mesh) (2 * length a.mesh) a b None refl refl
     (owing_all c.loop-port.invariant (given_still x a b) c.in_default.ensures.0)
 
-pub give_owed-requires-clause-channel : goal.give_owed-requires-clause-channel
-give_owed-requires-clause-channel c =
-    (owing_next c.loop-port.invariant c.in-Some.ensures.0 c.in-Some.ensures.1).channel_in
+pub give_owed-requires-clause-there : goal.give_owed-requires-clause-there
+give_owed-requires-clause-there c =
+    (owing_next c.loop-port.invariant c.in-Some.ensures.0 c.in-Some.ensures.1).there
 
 pub give_owed-requires-clause-owed : goal.give_owed-requires-clause-owed
 give_owed-requires-clause-owed c =

@@ -61,6 +61,7 @@ credited c no_credit filed_so =
           c.self.invariant.holders _ _ (ap (λ (u : OutRecord). u.holder) c.add_credit.ensures)
           c.self.invariant.no_credit filed_so;
       owes_all = record { each = c.self.invariant.owes_all.each };
+      links = c.self.invariant.links;
       full = full_as _ _ _ _ _ _ refl c.self.invariant.full;
     }
 

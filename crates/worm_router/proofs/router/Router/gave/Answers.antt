@@ -13,6 +13,7 @@ use Rattle.worm_router.proofs.Holders.{holders_in}
 use Rattle.worm_router.proofs.HeldOuts.{outs_kept}
 use Rattle.worm_router.proofs.LackCredit.{lack_stay}
 use Rattle.worm_router.proofs.OweAll.{owe_given}
+use Rattle.worm_router.proofs.OweByLinks.{owing_given}
 use Rattle.worm_router.proofs.FullBuffers.{full_kept}
 use Rattle.worm_router.proofs.router.Router.gave.Goals as goal
 
@@ -64,6 +65,9 @@ invariant_of-self c =
       owes_all = owe_given _ _ _ _ _ _ input c.self.invariant.busy.few_ports c.self.invariant.busy.few_channels _ _ _
           (ap (λ (x : ChannelState). x.owed) c.give.ensures) (omega (arith, owed_some)) had.owed_fits
           (filed _ _ _ _ _ c.put.ensures) c.self.invariant.owes_all;
+      links = owing_given _ _ _ _ _ _ (omega (arith, input.place.port_in, c.self.invariant.busy.few_ports))
+          (omega (arith, input.place.channel_in, c.self.invariant.busy.few_channels)) _
+          (filed _ _ _ _ _ c.remove_if.ensures) c.self.invariant.links;
       full = full_kept _ _ _ _ _ _ input _ _ _ refl (ap (λ (x : ChannelState). x.buffer) c.give.ensures)
           c.self.invariant.full;
     }

@@ -39,6 +39,7 @@ invariant_of-self c = record {
   outs = c.self.invariant.outs;
   no_credit = record { each = c.self.invariant.no_credit.each };
   owes_all = record { each = c.self.invariant.owes_all.each };
+  links = c.self.invariant.links;
   full = full_as _ _ _ _ _ _ refl c.self.invariant.full;
   classes = c.self.invariant.classes;
 }

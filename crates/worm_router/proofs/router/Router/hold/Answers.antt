@@ -90,6 +90,7 @@ invariant_of-self c =
           c.self.invariant.holders c.self.invariant.no_credit;
       owes_all = owe_stay _ _ _ _ _ _ input c.self.invariant.busy.few_ports c.self.invariant.busy.few_channels _ _ _
           refl (ap (λ (x : ChannelState). x.owed) active) c.self.invariant.owes_all;
+      links = c.self.invariant.links;
       full = full_kept _ _ _ _ _ _ input _ _ _ refl
           (ap (λ (x : ChannelState). x.buffer) active) c.self.invariant.full;
     }

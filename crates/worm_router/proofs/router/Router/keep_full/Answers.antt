@@ -21,6 +21,7 @@ invariant_of-self c = record {
   outs = c.self.invariant.outs;
   no_credit = c.self.invariant.no_credit;
   owes_all = c.self.invariant.owes_all;
+  links = c.self.invariant.links;
   full = more_full _ _ _ _ (subst (λ (r : RouterState). IsFull r c.args.class) (sym c.self.view_is) c.requires)
       c.put.ensures c.self.invariant.full;
   classes = c.self.invariant.classes;

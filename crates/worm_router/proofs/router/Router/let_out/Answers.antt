@@ -1,4 +1,4 @@
-use Rattle.std.proofs.Common.{◌+◌, ◌≡◌, ◌&&◌, ◌||◌, not, nat_lt, ℕ, Option, None, refl, ap, sym, ◌∙◌, subst}
+use Rattle.std.proofs.Common.{◌+◌, ◌≡◌, ◌&&◌, ◌||◌, ◌==◌, not, nat_lt, if◌then◌else◌, ℕ, Option, None, refl, ap, sym, ◌∙◌, subst}
 use Rattle.std.specs.Prelude.{is_some}
 use Rattle.worm_router.specs.Busy.{IsFiled, is_occupied, owes}
 use Rattle.worm_records.specs.declared.OutRecord.{OutRecord}
@@ -6,7 +6,7 @@ use Rattle.worm_vcalloc.specs.ChannelSet.{has}
 use Rattle.std.proofs.Math.Bool.{not-not}
 use Rattle.worm_router.proofs.Filed.{filed, inside_of, owes_more}
 use Rattle.worm_router.specs.declared.busy.BusyChannels.{BusyChannels}
-use Rattle.worm_router.specs.Router.{RouterState, ChannelState, router_state}
+use Rattle.worm_router.specs.Router.{RouterState, ChannelState, router_state, terminal}
 use Rattle.worm_router.proofs.Leaving.{may_leave}
 use Rattle.worm_router.proofs.AfterSending.{IsLeaving, IsOut, leaving_of, closed_kept, followed_kept}
 use Rattle.worm_router.proofs.router.Router.let_out.Goals.{After-index_mut-output, After-forget_full}
@@ -21,15 +21,15 @@ was c =
 leaves : (c : After-index_mut-output)
     → IsLeaving (was c) c.self.inside.busy c.args.port c.args.vc c.line-i.result c.args.out c.args.flit.vc
     c.line-o.result c.index_mut-channel.result.now c.index_mut-output.result.now c.credit_of-spent.result
-    c.credit_of-more_owed.result
+    c.owed_for-more_owed.result
 leaves c =
     leaving_of (was c) c.args.self.now c.self.inside.busy c.self.inside.demand c.self.inside.masks
     c.args.port c.args.vc c.line-i.result c.args.out c.line-o.result c.args.flit
     c.index_mut-channel.result.now c.index_mut-output.result.now c.credit_of-spent.result
-    c.credit_of-more_owed.result c.self.view_is c.self.invariant c.requires.place c.requires.ready
+    c.owed_for-more_owed.result c.self.view_is c.self.invariant c.requires.place c.requires.ready
     c.line-i.ensures.value c.line-i.ensures.in_inputs c.index_mut-channel.ensures.value
     c.line-o.ensures.value c.line-o.ensures.in_outputs c.index_mut-output.ensures.value c.credit_of-spent.ensures.value
-    c.credit_of-more_owed.ensures.value
+    c.owed_for-more_owed.ensures.value
 
 -- it leaves by an output channel of the router
 pub line-o-requires : goal.line-o-requires
@@ -58,13 +58,15 @@ out : (c : After-forget_full)
     c.self.inside.depth
     c.self.inside.inputs.items c.self.inside.outputs.items c.self.inside.channel_alloc c.self.inside.switch_alloc)
     c.self.inside.busy c.args.port c.args.vc c.line-i.result c.args.out c.args.flit.vc c.line-o.result
-    c.index_mut-channel.result.now c.index_mut-output.result.now c.credit_of-spent.result c.credit_of-more_owed.result
-    → IsOut c.self.inside.depth c.self.inside.busy c.forget_full.new.self c.args.port c.args.vc
-    c.index_mut-channel.result.now c.let_out.new.self c.args.flit c.credit_of-more_owed.result
+    c.index_mut-channel.result.now c.index_mut-output.result.now c.credit_of-spent.result c.owed_for-more_owed.result
+    → IsOut (router_state c.self.inside.routes.mesh c.self.inside.routes.node c.self.inside.classes c.self.inside.depth
+    c.self.inside.inputs.items c.self.inside.outputs.items c.self.inside.channel_alloc c.self.inside.switch_alloc)
+    c.self.inside.busy c.forget_full.new.self c.args.port c.args.vc
+    c.index_mut-channel.result.now c.let_out.new.self c.args.flit c.owed_for-more_owed.result
 out c it =
     let sets = c.self.inside.busy in
     let gone = c.let_out.new.self in
-    let more = c.credit_of-more_owed.result in
+    let more = c.owed_for-more_owed.result in
     let occupied : (has sets.occupied c.args.port c.args.vc && not (not c.is_occupied.result)) ≡ is_occupied gone =
     ap (λ b. b && not (not c.is_occupied.result)) it.has_flit ∙ not-not c.is_occupied.result ∙ c.is_occupied.ensures in
     let owing : (has sets.owing c.args.port c.args.vc || nat_lt 0 more) ≡ owes gone =
@@ -74,14 +76,17 @@ out c it =
     ≡ nat_lt c.self.inside.depth (gone.owed + more) =
     ap (λ b. b || nat_lt c.self.inside.depth (c.owed.result + more)) it.owes_less
     ∙ ap (λ n. nat_lt c.self.inside.depth (n + more)) c.owed.ensures in
-    subst (λ (mid : BusyChannels). IsOut c.self.inside.depth c.self.inside.busy mid
-    c.args.port c.args.vc c.index_mut-channel.result.now c.let_out.new.self c.args.flit c.credit_of-more_owed.result)
+    subst (λ (mid : BusyChannels). IsOut (router_state c.self.inside.routes.mesh c.self.inside.routes.node
+    c.self.inside.classes c.self.inside.depth c.self.inside.inputs.items c.self.inside.outputs.items
+    c.self.inside.channel_alloc c.self.inside.switch_alloc) c.self.inside.busy mid
+    c.args.port c.args.vc c.index_mut-channel.result.now c.let_out.new.self c.args.flit c.owed_for-more_owed.result)
     (sym c.forget_full.ensures) (record {
       gone_is = c.let_out.ensures;
       occupied = subst (IsFiled _ _ _ _) occupied (filed _ _ _ _ _ c.remove_if.ensures);
       owing = subst (IsFiled _ _ _ _) owing (filed _ _ _ _ _ c.insert_if.ensures);
       owes_all = subst (IsFiled _ _ _ _) owes_all (filed _ _ _ _ _ c.insert_if-2.ensures);
-      full = refl;
+      owes_here = sym owing;
+      full = ap (λ t. if c.args.port == t then 0 else sets.full) (c.terminal.ensures.value ∙ ap terminal (sym c.self.view_is));
       others = refl;
     })
 

@@ -83,6 +83,7 @@ invariant_of-self c =
           refl _ was_idle (ap (λ (x : ChannelState). x.state) c.route_to.ensures) c.self.invariant.no_credit;
       owes_all = owe_stay _ _ _ _ _ _ input c.self.invariant.busy.few_ports c.self.invariant.busy.few_channels _ _ _
           refl (ap (λ (x : ChannelState). x.owed) c.route_to.ensures) c.self.invariant.owes_all;
+      links = c.self.invariant.links;
       full = full_kept _ _ _ _ _ _ input _ _ _ refl
           (ap (λ (x : ChannelState). x.buffer) c.route_to.ensures) c.self.invariant.full;
     }

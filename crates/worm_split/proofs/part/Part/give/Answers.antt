@@ -1,10 +1,9 @@
 use Rattle.std.proofs.Common.{◌≡◌, ◌<◌, ◌↔◌, false, inr, sum, arith, ap, subst, sym, ◌∙◌}
 use Rattle.std.specs.Prelude.{IsTrue}
 use Rattle.std.proofs.lemmas.Bool.{true≢false}
-use Rattle.worm_router.specs.Router.{input_at}
+use Rattle.worm_theory.specs.Steps.{GiveCredit, IsThere}
 use Rattle.worm_region.specs.Shape.{net_shape}
-use Rattle.worm_region.specs.State.{router_at}
-use Rattle.worm_region.proofs.OwesToLinks.{owes_there}
+use Rattle.worm_region.specs.State.{shape}
 use Rattle.worm_split.specs.Ends.{enters_by}
 use Rattle.worm_split.specs.PartState.{PartState, part_state}
 use Rattle.worm_split.specs.PartTurns.{ComesBy}
@@ -17,10 +16,16 @@ use Rattle.worm_split.proofs.part.Part.give.Given as given
 pub links_beyond-links-requires : goal.links_beyond-links-requires
 unfolding net_shape
 links_beyond-links-requires g c =
-    let channel = subst (λ (p : PartState). c.args.vc < sum p.net.channels) (sym c.self.view_is) c.requires.channel in
-    let owed = subst (λ (p : PartState). 0 < (input_at (router_at p.net c.args.node) c.args.port c.args.vc).owed)
-    (sym c.self.view_is) c.requires.owed in
-    (owes_there c.self.inside.region c.args.node c.args.port c.args.vc c.recall.ensures.framed channel owed).1
+    (subst (λ (p : PartState). IsThere (shape p.net) (GiveCredit c.args.node c.args.port c.args.vc)) (sym c.self.view_is)
+    c.requires.there).1
+
+pub give_across-requires-clause-node : goal.give_across-requires-clause-node
+unfolding net_shape
+give_across-requires-clause-node g c = c.requires.there.0
+
+pub give_across-requires-clause-channel : goal.give_across-requires-clause-channel
+unfolding net_shape
+give_across-requires-clause-channel g c = c.requires.there.2
 
 -- the link into the port
 entering : (g : given.Over) (c : After-links_beyond-links g)

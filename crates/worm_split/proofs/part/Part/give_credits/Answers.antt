@@ -1,5 +1,5 @@
 use Rattle.std.proofs.Common.{refl, subst}
-use Rattle.worm_router.specs.Busy.{IsSetOf, owes}
+use Rattle.worm_router.specs.Busy.{IsSetOf, OweByLinks, owes}
 use Rattle.worm_region.specs.State.{router_at}
 use Rattle.worm_region.specs.Workable.{IsWorkable}
 use Rattle.worm_split.specs.PartState.{PartState}
@@ -13,7 +13,9 @@ loop-port-init g c =
     owing_start c.args.node c.owing-left.result c.args.self.now.net
     (subst (λ (p : PartState). IsWorkable p.net) c.self.view_is c.owing-left.ensures.sound) c.requires.node
     (subst (λ (p : PartState). IsSetOf owes (router_at p.net c.args.node) c.owing-left.result) c.self.view_is
-    c.owing-left.ensures.owing) (record { each = (refl, refl); same = same_still c.args.self.now })
+    c.owing-left.ensures.owing)
+    (subst (λ (p : PartState). OweByLinks p.net.mesh c.args.node c.owing-left.result) c.self.view_is
+    c.owing-left.ensures.links) (record { each = (refl, refl); same = same_still c.args.self.now })
 
 pub returns-clause-gives : goal.returns-clause-gives
 returns-clause-gives g c =
@@ -27,9 +29,9 @@ loop-port-preserved g c =
     c.in-Some.port c.in-Some.vc c.loop-port.invariant c.in-Some.ensures.0 c.in-Some.ensures.1
     c.give.ensures.gives c.give.ensures.same sound
 
-pub give-requires-clause-channel : goal.give-requires-clause-channel
-give-requires-clause-channel g c =
-    (owing_next c.loop-port.invariant c.in-Some.ensures.0 c.in-Some.ensures.1).channel_in
+pub give-requires-clause-there : goal.give-requires-clause-there
+give-requires-clause-there g c =
+    (owing_next c.loop-port.invariant c.in-Some.ensures.0 c.in-Some.ensures.1).there
 
 pub give-requires-clause-owed : goal.give-requires-clause-owed
 give-requires-clause-owed g c =

@@ -1,4 +1,6 @@
 use Rattle.std.proofs.Common.{◌≡◌, Ok, true, refl, sym, subst, ◌∙◌}
+use Rattle.worm_theory.specs.Steps.{GiveCredit, IsThere}
+use Rattle.worm_region.specs.State.{shape}
 use Rattle.worm_region.specs.Workable.{owned}
 use Rattle.worm_region.specs.declared.owner.Owner.{Owner}
 use Rattle.worm_region.specs.declared.step.Moved.TheVariants.{Done}
@@ -8,6 +10,11 @@ use Rattle.worm_split.specs.PartTurns.{ComesBy}
 use Rattle.worm_split.proofs.OwnMoves.{part_with_net}
 use Rattle.worm_split.proofs.Staying.{credit_ends_within, gave_within}
 use Rattle.worm_split.proofs.part.Part.give_within.Goals as goal
+
+pub give_owed-requires-clause-there : goal.give_owed-requires-clause-there
+give_owed-requires-clause-there c =
+    subst (λ (q : PartState). IsThere (shape q.net) (GiveCredit c.args.node c.args.port c.args.vc)) (sym c.self.view_is)
+    c.requires.there
 
 pub give_owed-requires-clause-within : goal.give_owed-requires-clause-within
 give_owed-requires-clause-within c =
