@@ -28,7 +28,7 @@ use Rattle.worm_region.specs.Moves.{done_step, link_out, after_ready, after_send
 use Rattle.worm_region.proofs.LinkWritten.{link_framed, below_not_same}
 use Rattle.worm_region.proofs.Room.{link_room}
 use Rattle.worm_region.proofs.AsListed.{buffer_there, record_there, owed_there, spent_there}
-use Rattle.worm_region.proofs.FrameKept.{kept, framed_mesh, node_framed, node_of, router_framed}
+use Rattle.worm_region.proofs.FrameKept.{kept, node_framed, node_of, router_framed}
 use Rattle.worm_region.proofs.PlacesThere.{net_place}
 use Rattle.worm_region.proofs.LinksThere.{leader}
 use Rattle.worm_region.proofs.SentToLink.{active_leads, linked_is, sent_to_link}

@@ -16,7 +16,7 @@ use Rattle.worm_router.specs.Router.{after_leaving}
 use Rattle.worm_theory.specs.Network.{Network, put2, put3}
 use Rattle.worm_theory.specs.Steps.{sent_by}
 use Rattle.worm_region.specs.Shape.{net_shape}
-use Rattle.worm_region.specs.State.{NetState, IsFramed, IsNetPlace, shape, network_of, router_at}
+use Rattle.worm_region.specs.State.{NetState, IsNetPlace, shape, network_of, router_at}
 use Rattle.worm_wires.specs.Links.{LinkView}
 use Rattle.worm_region.specs.State.{link_at, with_link, with_router}
 use Rattle.worm_region.specs.Workable.{IsWorkableBy, LeadsOn}

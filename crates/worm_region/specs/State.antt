@@ -1,10 +1,10 @@
 -- What a contract sees of a network, and the functions of places that it stands for (Dally and Towles, chapters 13 and
 -- 16).
 use Rattle.std.specs.Prelude.{ℕ, ◌*◌, ◌<◌, ◌≤◌, ◌≡◌, ◌==◌, cond, nat_lt, List, length, map, drop, sum}
-use Rattle.std.specs.Prelude.{slice_index_or, slice_set, IsSome}
+use Rattle.std.specs.Prelude.{slice_index_or, slice_set}
 use Rattle.arrayvec.specs.ArrayString.{ArrayString}
 use Rattle.worm_flit.specs.Channels.{AreChannels}
-use Rattle.worm_mesh.specs.Address.{AreRadices, node_count, has_neighbour, neighbour_of}
+use Rattle.worm_mesh.specs.Address.{AreRadices, node_count, has_neighbour}
 use Rattle.worm_mesh.specs.Links.{links_before, link_count}
 use Rattle.worm_records.specs.declared.OutRecord.{OutRecord}
 use Rattle.worm_router.specs.Router.{RouterState, ChannelState, IsPlace, width, places, fresh_channel, free_output}

@@ -65,8 +65,8 @@ leaves_by_state r port c Idle fs d is = absurd (cc)
 leaves_by_state r port c (Waiting o) fs d is = absurd (cc)
 leaves_by_state r port c (Active o v) [] d is = absurd (cc)
 leaves_by_state r port c (Active o v) (f ∷ fs) d is =
-    by_test ((o == terminal r || nat_lt 0 (output_at r o v).credits) && (not (is_linked r port) || nat_lt c.owed r.depth))
-    is where
+    by_test ((o == terminal r || nat_lt 0 (output_at r o v).credits)
+    && (not (is_linked r port) || nat_lt c.owed r.depth)) is where
       by_test : (b : Bool) → (if b then Some (o, with_channel f v) else None) ≡ Some d → Active o v ≡ Active d.0 d.1.vc
       by_test true e = let pair : (o, with_channel f v) ≡ d = cc in ap (λ (k : ℕ × Flit). Active k.0 k.1.vc) pair
       by_test false e = absurd (cc)
@@ -88,8 +88,8 @@ leaving_is r port vc out out_vc c front credit owe is active first a b =
           let same : f ≡ front = cc in
           ap (λ g. if (out == terminal r || nat_lt 0 (output_at r out out_vc).credits) &&
           (not (is_linked r port) || nat_lt c.owed r.depth) then Some (out, with_channel g out_vc) else None) same
-          ∙ ap (λ k. if k && (not (is_linked r port) || nat_lt c.owed r.depth) then Some (out, with_channel front out_vc)
-          else None) (sym a)
+          ∙ ap (λ k. if k && (not (is_linked r port) || nat_lt c.owed r.depth)
+          then Some (out, with_channel front out_vc) else None) (sym a)
           ∙ ap (λ k. if credit && k then Some (out, with_channel front out_vc) else None) (sym b)
 
 -- a channel whose front may leave has a flit

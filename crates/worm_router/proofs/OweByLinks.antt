@@ -10,7 +10,7 @@ use Rattle.worm_router.specs.Busy.{IsFiled, OweByLinks}
 -- none owes
 pub none_owing : (mesh : List ℕ) (node : ℕ) → OweByLinks mesh node 0
 none_owing mesh node = record {
-  each = λ p v p_few v_few there. let no : true ≡ false = sym there ∙ has-zero p v in absurd (cc)
+  each = λ p v p_few v_few there. let no : true ≡ false = sym there ∙ has-zero p v in absurd (cc);
 }
 
 module _ (mesh : List ℕ) (node old new port vc : ℕ) (p_few : port ≤ 6) (v_few : vc < 8) where
@@ -28,7 +28,7 @@ module _ (mesh : List ℕ) (node old new port vc : ℕ) (p_few : port ≤ 6) (v_
         | inr other ↦ those.each p v p_in v_in (sym (filed.elsewhere p v p_in v_in (λ e f. other f)) ∙ there)
       ]
       | inr other ↦ those.each p v p_in v_in (sym (filed.elsewhere p v p_in v_in (λ e f. other e)) ∙ there)
-    ]
+    ];
   }
 
   -- one that has given a credit owed one before

@@ -55,7 +55,8 @@ ready_parts r p c (Waiting o) fs = none_none (nat_lt 0 (length fs)) (free r p (W
 ready_parts r p c (Active o v) [] = refl
 ready_parts r p c (Active o v) (f ∷ fs) =
     let some : nat_lt 0 (length (f ∷ fs)) ≡ true = grind (arith, nat_tests) in
-    out_if ((o == terminal r || nat_lt 0 (output_at r o v).credits) && (not (is_linked r p) || nat_lt c.owed r.depth)) o v f
+    out_if ((o == terminal r || nat_lt 0 (output_at r o v).credits)
+    && (not (is_linked r p) || nat_lt c.owed r.depth)) o v f
     ∙ sym (ap (λ b. if not (lacks_credit r (Active o v)) && b then Some o else None)
     (not_not (not (is_linked r p) || nat_lt c.owed r.depth))
     ∙ ap (λ b. if b && (not (is_linked r p) || nat_lt c.owed r.depth) then Some o else None)

@@ -1,4 +1,5 @@
-use Rattle.std.proofs.Common.{◌+◌, ◌≡◌, ◌&&◌, ◌||◌, ◌==◌, not, nat_lt, if◌then◌else◌, ℕ, Option, None, refl, ap, sym, ◌∙◌, subst}
+use Rattle.std.proofs.Common.{◌+◌, ◌≡◌, ◌&&◌, ◌||◌, ◌==◌, not, nat_lt, if◌then◌else◌, ℕ}
+use Rattle.std.proofs.Common.{Option, None, refl, ap, sym, ◌∙◌, subst}
 use Rattle.std.specs.Prelude.{is_some}
 use Rattle.worm_router.specs.Busy.{IsFiled, is_occupied, owes}
 use Rattle.worm_records.specs.declared.OutRecord.{OutRecord}
@@ -86,7 +87,8 @@ out c it =
       owing = subst (IsFiled _ _ _ _) owing (filed _ _ _ _ _ c.insert_if.ensures);
       owes_all = subst (IsFiled _ _ _ _) owes_all (filed _ _ _ _ _ c.insert_if-2.ensures);
       owes_here = sym owing;
-      full = ap (λ t. if c.args.port == t then 0 else sets.full) (c.terminal.ensures.value ∙ ap terminal (sym c.self.view_is));
+      full = ap (λ t. if c.args.port == t then 0 else sets.full)
+          (c.terminal.ensures.value ∙ ap terminal (sym c.self.view_is));
       others = refl;
     })
 

@@ -1,4 +1,4 @@
-use Rattle.std.proofs.Common.{◌≡◌, ◌<◌, ◌↔◌, false, inr, sum, arith, ap, subst, sym, ◌∙◌}
+use Rattle.std.proofs.Common.{◌≡◌, ◌↔◌, false, inr, arith, ap, subst, sym, ◌∙◌}
 use Rattle.std.specs.Prelude.{IsTrue}
 use Rattle.std.proofs.lemmas.Bool.{true≢false}
 use Rattle.worm_theory.specs.Steps.{GiveCredit, IsThere}
@@ -16,8 +16,8 @@ use Rattle.worm_split.proofs.part.Part.give.Given as given
 pub links_beyond-links-requires : goal.links_beyond-links-requires
 unfolding net_shape
 links_beyond-links-requires g c =
-    (subst (λ (p : PartState). IsThere (shape p.net) (GiveCredit c.args.node c.args.port c.args.vc)) (sym c.self.view_is)
-    c.requires.there).1
+    (subst (λ (p : PartState). IsThere (shape p.net) (GiveCredit c.args.node c.args.port c.args.vc))
+    (sym c.self.view_is) c.requires.there).1
 
 pub give_across-requires-clause-node : goal.give_across-requires-clause-node
 unfolding net_shape
