@@ -17,7 +17,7 @@ use worm_core::{Net, Script, StepFault};
 use worm_report::{ReportFault, Summary, write_report};
 use worm_text::{ReadFault, read_text};
 
-/// How many entries of the script no source has accepted, of a network that began with nothing offered.
+/// The entries of the script less what the network's sources accepted, a packet or a mark as one; 0 where that is more.
 pub fn not_offered(net: &Net, script: &Script) -> u64
     ensures { result ≡ length script.now - accepted_total net.now }
 {

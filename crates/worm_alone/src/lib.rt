@@ -1,8 +1,8 @@
 //! What `wormrun` does on one thread: both texts are read and accepted, their script is run on their network, and the
 //! report goes out, over readers and a writer.
 //!
-//! It stands beside the crates of several workers and names none of them. A run by workers reads, accepts and reports by
-//! the calls here too.
+//! It stands beside the crates of several workers and names none of them. A run by workers reads, accepts, drains and
+//! reports by the calls here too.
 #![tactic(auto)]
 
 mod alone;

@@ -34,7 +34,8 @@ fn take_turns(net: &mut Net, script: &Script, turns: u64) -> Option<Stop>
     None
 }
 
-/// At most `most` turns without entries. It ends before a turn with nothing under way, and in a turn with a fault.
+/// At most `most` turns without entries. It ends before a turn with nothing under way, and in a turn with a fault,
+/// which it answers.
 pub fn drain(alloc: Global, net: &mut Net, most: u64) -> Option<StepFault>
     ensures { Drains most net.old result net.new }
 {
