@@ -21,9 +21,9 @@ use Rattle.worm_run.specs.Runs.{Ending, ending_at, stops_of}
 use Rattle.worm_run.specs.Working.{stop_of}
 use Rattle.worm_run.proofs.NeverRefused.{run_never_refuses}
 use Rattle.worm_text.specs.Network.{Network}
-use Rattle.worm_program.specs.declared.fault.ProgramFault.{ProgramFault}
-use Rattle.worm_program.specs.declared.fault.ProgramFault.TheVariants as f
-use Rattle.worm_program.specs.Programs.{IsNotAccepted, Stream, WritesFront, WritesReport}
+use Rattle.worm_alone.specs.declared.fault.ProgramFault.{ProgramFault}
+use Rattle.worm_alone.specs.declared.fault.ProgramFault.TheVariants as f
+use Rattle.worm_alone.specs.Programs.{IsNotAccepted, Stream, WritesFront, WritesReport}
 use Rattle.worm_program.specs.Together.{DrainsUnstopped, EndsTogether, FailsTogether, IsReportOf, PartTogether}
 use Rattle.worm_program.specs.Together.{RanWhole, ReportsTogether, EndsUnrefused, IsNoRefusal}
 use Rattle.worm_program.specs.Together.{for_memory, lack_memory}

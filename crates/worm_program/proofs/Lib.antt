@@ -1,9 +1,3 @@
-pub mod Configs
-pub mod Draining
-pub mod Reporting
-pub mod Scripts
 pub mod ByWorkers
-pub mod CutBehindEnd
-pub mod OneReport
+pub mod Meshes
 pub mod Statuses
-pub mod NoWant

@@ -1,10 +1,11 @@
 -- However the program ends, its status is one of those that it has.
 use Rattle.std.proofs.Common.{◌≡◌, ◌≤◌, ◌⊎◌, ℕ, Result, Ok, Err, inl, inr, arith}
-use Rattle.worm_program.specs.declared.fault.ProgramFault.{ProgramFault}
-use Rattle.worm_program.specs.declared.fault.ProgramFault.TheVariants as f
+use Rattle.worm_alone.specs.declared.fault.ProgramFault.{ProgramFault}
+use Rattle.worm_alone.specs.declared.fault.ProgramFault.TheVariants as f
 use Rattle.worm_words.specs.declared.words.WordsFault.{WordsFault}
 use Rattle.worm_words.specs.declared.words.WordsFault.TheVariants as w
-use Rattle.worm_program.specs.Faults.{IsStatus, ended_status, status_of, words_status}
+use Rattle.worm_alone.specs.Faults.{status_of}
+use Rattle.worm_program.specs.Statuses.{IsStatus, ended_status, words_status}
 
 between : (s : ℕ) → 2 ≤ s → s ≤ 8 → IsStatus s
 between s low high = inr (low, high)

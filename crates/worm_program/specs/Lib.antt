@@ -1,4 +1,2 @@
-pub mod Faults
-pub mod Joined
-pub mod Programs
+pub mod Statuses
 pub mod Together

@@ -27,11 +27,11 @@ use Rattle.worm_report.specs.declared.summary.Summary.{Summary}
 use Rattle.worm_report.specs.Report.{report}
 use Rattle.worm_report.specs.Seen.{seen}
 use Rattle.worm_report.specs.Writing.{AreLines}
-use Rattle.worm_program.specs.declared.fault.ProgramFault.{ProgramFault}
-use Rattle.worm_program.specs.declared.fault.ProgramFault.TheVariants as f
+use Rattle.worm_alone.specs.declared.fault.ProgramFault.{ProgramFault}
+use Rattle.worm_alone.specs.declared.fault.ProgramFault.TheVariants as f
 use Rattle.worm_words.specs.declared.words.Options.{Options}
-use Rattle.worm_program.specs.Programs.{FailsAlone, FailsReading, GaveBoth, IsCutShort, IsRefusedAs, RanOutAtEntry}
-use Rattle.worm_program.specs.Programs.{ReportsAlone, SaysNetwork, SaysTraffic, Stream, WritesFront}
+use Rattle.worm_alone.specs.Programs.{FailsAlone, FailsReading, GaveBoth, IsCutShort, IsRefusedAs, RanOutAtEntry}
+use Rattle.worm_alone.specs.Programs.{ReportsAlone, SaysNetwork, SaysTraffic, Stream, WritesFront}
 
 -- Stops
 

@@ -10,24 +10,20 @@ ghost use Rattle.clap.specs.Words.{fault_of};
 ghost use Rattle.std.specs.Prelude.{◌≡◌, ◌≢◌, ◌<◌, ◌⊎◌, [], length};
 ghost use Rattle.std.specs.Process.{exit_status};
 ghost use Rattle.worm_words.specs.Commands.{command};
-ghost use Rattle.worm_program.specs.Faults.{ended_status, words_status, IsStatus};
+ghost use Rattle.worm_program.specs.Statuses.{ended_status, words_status, IsStatus};
 ghost use Rattle.worm_words.specs.Ranges.{InRange};
 
-mod fault;
-mod joined;
 mod program;
 mod together;
-mod turns;
 
-pub use fault::ProgramFault;
-pub use joined::network_end;
-pub use program::{MOST_BYTES, report_run, run_alone, run_joined, run_texts};
+pub use program::run_texts;
 use std::alloc::Global;
 use std::process::ExitCode;
 use std::rt::{Env, Files};
 use std::sync::Wait;
 use std::thread::Threads;
 use std::{fs, io};
+pub use worm_alone::{MOST_BYTES, ProgramFault, network_end, report_run, run_alone, run_joined};
 use worm_run::Paced;
 pub use worm_words::{Options, Words, WordsFault, all_words, read_words};
 

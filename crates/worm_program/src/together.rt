@@ -4,10 +4,10 @@ ghost use Rattle.std.specs.Prelude.{None, Some, ◌≡◌, ◌<◌, IfOk, IfErr,
 ghost use Rattle.worm_run.specs.Runs.{HasWorkers};
 ghost use Rattle.worm_program.specs.Together.{AreStopsOf, DrainsUnstopped, EndsTogether, lack_memory, stop_turn};
 
-use crate::turns::drain;
 use std::alloc::Global;
 use std::sync::Wait;
 use std::thread::Threads;
+use worm_alone::drain;
 use worm_core::{Net, Script, StepFault};
 use worm_run::{Gate, RunEnd, RunFault, RunPlan, Stop, StopWhy, run};
 

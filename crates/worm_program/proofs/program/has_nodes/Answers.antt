@@ -2,7 +2,8 @@ use Rattle.std.proofs.Common.{rules, ◌≡◌, ℕ, List, sym, subst}
 use Rattle.std.proofs.lemmas.List.{length-map}
 use Rattle.worm_mesh.specs.Address.{AreRadices}
 use Rattle.worm_text.specs.Network.{view}
-use Rattle.worm_program.proofs.Configs.{kept_config, not_fault}
+use Rattle.worm_alone.proofs.Configs.{kept_config}
+use Rattle.worm_program.proofs.Meshes.{not_fault}
 use Rattle.worm_program.proofs.program.has_nodes.Goals as goal
 
 pub unreachable-requires : goal.unreachable-requires

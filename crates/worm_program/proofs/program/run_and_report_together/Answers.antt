@@ -5,10 +5,10 @@ use Rattle.worm_mesh.specs.Address.{node_count}
 use Rattle.worm_report.specs.Seen.{seen}
 use Rattle.worm_report.specs.Report.{report}
 use Rattle.worm_text.specs.Network.{view}
-use Rattle.worm_program.specs.Programs.{stream}
+use Rattle.worm_alone.specs.Programs.{stream}
 use Rattle.worm_program.specs.Together.{plan_of, summary_with}
 use Rattle.worm_program.proofs.ByWorkers.{not_accepted, together_so}
-use Rattle.worm_program.proofs.Scripts.{accepted_script}
+use Rattle.worm_alone.proofs.Scripts.{accepted_script}
 use Rattle.worm_program.proofs.program.run_and_report_together.Goals as goal
 
 -- where the texts are not accepted

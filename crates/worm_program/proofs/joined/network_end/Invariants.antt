@@ -1,5 +1,0 @@
-use Rattle.worm_program.proofs.CutBehindEnd.{IsWalked}
-use Rattle.worm_program.proofs.joined.network_end.Given as goal
-
-abbrev pub invariant-loop-at : goal.invariant-loop-at
-invariant-loop-at l = IsWalked l.text l.start l.at
