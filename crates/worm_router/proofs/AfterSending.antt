@@ -4,13 +4,15 @@ use Rattle.std.proofs.Common.{Option, None, Some, slice_set, slice_index_or, get
 use Rattle.std.proofs.Common.{arith, inl, refl, ap, sym, subst, ◌∙◌, ◌==◌}
 use Rattle.std.proofs.lemmas.List.Elements.{All-set, All-get_or}
 use Rattle.worm_flit.specs.declared.Flit.{Flit}
+use Rattle.worm_flit.specs.Kinds.{closes}
 use Rattle.worm_records.specs.declared.InRecord.TheVariants.{Idle, Active}
 use Rattle.worm_records.specs.declared.OutRecord.{OutRecord}
 use Rattle.worm_vcalloc.specs.ChannelSet.{has}
 use Rattle.worm_vcalloc.specs.Table.{with_cell}
 use Rattle.worm_router.specs.declared.busy.BusyChannels.{BusyChannels}
 use Rattle.worm_router.specs.Router.{RouterState, ChannelState, IsChannel, IsPlace, terminal, width, line, in_state}
-use Rattle.worm_router.specs.Router.{fresh_channel, free_output, input_at, output_at, leaving, credit_of, owed_for}
+use Rattle.worm_router.specs.Router.{fresh_channel, free_output, input_at, output_at, leaving, let_out, passed}
+use Rattle.worm_router.specs.Router.{credit_of, owed_for, after_leaving, after_send}
 use Rattle.worm_router.specs.Demand.{DemandView}
 use Rattle.worm_router.specs.Busy.{IsKept, HasFront, IsFiled, is_occupied, is_waiting, owes, waits}
 use Rattle.worm_router.proofs.ChangesSound.{both_set_sound, left_by, left_sound, full_after, no_credit}
@@ -193,6 +195,38 @@ module _ (r : RouterState) (sets new : BusyChannels) (asked now_asked : DemandVi
     full = full_left r port vc i had now leaving.input (slice_set r.outputs o u) sets.full new.full left.full kept.full;
     classes = kept.classes;
   }
+
+-- both channels as they are written, whether or not that `closed` the packet, are those of a router after the Send
+pub left_is : (r s : RouterState) (port vc i out o : ℕ) (f : Flit) (had now : ChannelState) (had_out u : OutRecord)
+    (spent more : ℕ) (closed : Bool) → r ≡ s → leaving s port vc ≡ Some (out, f) → closes f.kind ≡ closed
+    → i ≡ line s port vc → o ≡ line s out f.vc → had ≡ input_at s port vc → had_out ≡ output_at s out f.vc
+    → spent ≡ credit_of s out → more ≡ owed_for s port → now ≡ left_by closed had f more
+    → u ≡ record { holder = (if closed then None else had_out.holder); credits = had_out.credits - spent }
+    → record r { inputs = slice_set r.inputs i now; outputs = slice_set r.outputs o u } ≡ after_send s port vc
+left_is r s port vc i out o f had now had_out u spent more closed same leaves closing at at_out was was_out spends owes
+    now_is u_is =
+    let gone : now ≡ let_out (input_at s port vc) f (owed_for s port) =
+    now_is ∙ ap (λ b. left_by b had f more) (sym closing)
+    ∙ ap (λ (c : ChannelState). let_out c f more) was ∙ ap (let_out (input_at s port vc) f) owes in
+    let free : u ≡ passed (output_at s out f.vc) f (credit_of s out) =
+    u_is ∙ ap (λ b. record { holder = (if b then None else had_out.holder); credits = had_out.credits - spent })
+    (sym closing)
+    ∙ ap (λ (w : OutRecord). passed w f spent) was_out ∙ ap (passed (output_at s out f.vc) f) spends in
+    ap (λ (q : RouterState). record q { inputs = slice_set q.inputs i now; outputs = slice_set q.outputs o u }) same
+    ∙ ap (λ (c : ChannelState). record s { inputs = slice_set s.inputs i c; outputs = slice_set s.outputs o u }) gone
+    ∙ ap (λ (w : OutRecord). record s {
+      inputs = slice_set s.inputs i (let_out (input_at s port vc) f (owed_for s port));
+      outputs = slice_set s.outputs o w;
+    }) free
+    ∙ ap (λ k. record s {
+      inputs = slice_set s.inputs k (let_out (input_at s port vc) f (owed_for s port));
+      outputs = slice_set s.outputs o (passed (output_at s out f.vc) f (credit_of s out));
+    }) at
+    ∙ ap (λ k. record s {
+      inputs = slice_set s.inputs (line s port vc) (let_out (input_at s port vc) f (owed_for s port));
+      outputs = slice_set s.outputs k (passed (output_at s out f.vc) f (credit_of s out));
+    }) at_out
+    ∙ ap (after_leaving s port vc) (sym leaves)
 
 module _ (r : RouterState) (sets mid : BusyChannels) (asked : DemandView) (masks : List ℕ)
     (port vc i out out_vc o : ℕ) (had gone : ChannelState) (had_out : OutRecord) (f : Flit) (spent more : ℕ)

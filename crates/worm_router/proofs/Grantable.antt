@@ -1,6 +1,6 @@
 -- What a pass of the channel allocator may grant, and to whom.
-use Rattle.std.proofs.Common.{◌≡◌, ℕ, ◌+◌, ◌≤◌, ◌&&◌, Bool, true, false, is_none, is_some, if◌then◌else◌}
-use Rattle.std.proofs.Common.{List, [], ◌∷◌, length, slice_get, Option, None, Some, refl, ap, sym, subst, ◌∙◌}
+use Rattle.std.proofs.Common.{◌≡◌, ℕ, ◌+◌, ◌≤◌, ◌&&◌, Bool, true, is_none, if◌then◌else◌}
+use Rattle.std.proofs.Common.{List, [], ◌∷◌, length, Option, None, Some, refl, ap, sym, subst, ◌∙◌}
 use Rattle.std.proofs.lemmas.Bool.{and_from, and_parts, eqb-true, true≢false}
 use Rattle.worm_flit.specs.declared.Flit.{Flit}
 use Rattle.worm_flit.specs.Channels.{owns}
@@ -36,27 +36,6 @@ choice_by r (Waiting p) (f ∷ fs) o c unheld uses =
     ap (λ k. if is_none (output_at r k c).holder && owns r.channels f.lane.class c then Some k else None) same
     ∙ ap (λ b. if b then Some o else None)
     (and_from _ _ unheld (sym (class_bits-owns r.channels f.lane.class c) ∙ parts.1))
-
--- what is granted to a channel with such a front, by whether it may be
-pub granting_by : (r : RouterState) (s : InRecord) (fs : List Flit) (o c : ℕ) (front : Flit) (may : Bool)
-    → s ≡ Waiting o → slice_get fs 0 ≡ Some front
-    → (is_none (output_at r o c).holder && owns r.channels front.lane.class c) ≡ may
-    → granting r s fs c ≡ (if may then Some o else None)
-granting_by r s [] o c front may waits first test = absurd (cc)
-granting_by r s (f ∷ fs) o c front may waits first test =
-    let same : f ≡ front = cc in
-    ap (λ t. granting r t (f ∷ fs) c) waits
-    ∙ ap (λ (g : Flit). if is_none (output_at r o c).holder && owns r.channels g.lane.class c then Some o else None)
-    same
-    ∙ ap (λ b. if b then Some o else None) test
-
-pub is_held : (h : Option (ℕ × ℕ)) (b : Bool) → is_some h ≡ true → (is_none h && b) ≡ false
-is_held None b e = absurd (cc)
-is_held (Some x) b e = refl
-
-pub is_unowned : (a b : Bool) → b ≡ false → (a && b) ≡ false
-is_unowned true b e = e
-is_unowned false b e = refl
 
 pub is_unheld : (h : Option (ℕ × ℕ)) → is_none h ≡ true → h ≡ None
 is_unheld None e = refl

@@ -1,7 +1,7 @@
 ghost use Rattle.std.specs.Prelude.{◌≡◌, ◌==◌, ◌||◌, ◌+◌, ◌*◌, ◌≤◌, ◌<◌, ◌↔◌, length, IfOk, IfErr};
 ghost use Rattle.std.specs.Prelude.{OnOk, OnErr, IsOk, IsErr, IsSome, IfSome, IfNone, None, Some, ℕ, is_some, nat_lt};
-ghost use Rattle.std.specs.Prelude.{◌-◌, if◌then◌else◌};
-ghost use Rattle.worm_flit.specs.Channels.{AreChannels, class_bits};
+ghost use Rattle.std.specs.Prelude.{◌-◌, ◌&&◌, if◌then◌else◌, is_none};
+ghost use Rattle.worm_flit.specs.Channels.{AreChannels, class_bits, owns};
 ghost use Rattle.worm_mesh.specs.Address.{node_count};
 ghost use Rattle.worm_records.specs.declared.InRecord.TheVariants.{Waiting};
 ghost use Rattle.worm_router.specs.Router.{IsPlace, line, fresh_router, input_at};
@@ -213,6 +213,16 @@ impl Router {
         true
     }
 
+    fn is_free_for(&self, class: u8, out: u8, out_vc: u8) -> bool
+        requires { IsPlace self.now out out_vc }
+        ensures { result
+            ≡ (is_none (output_at self.now out out_vc).holder && owns self.now.channels class out_vc) }
+    {
+        let is_free = self.outputs[self.line(out, out_vc)].holder.is_none();
+        let is_its = self.classes.owns(class, out_vc);
+        is_free & is_its
+    }
+
     fn grantable(&self, port: u8, vc: u8, out_vc: u8) -> Option<u8>
         requires place { IsPlace self.now port vc }
         requires out_channel { out_vc < width self.now }
@@ -226,11 +236,11 @@ impl Router {
             return None;
         };
         let front = channel.flit_at(0)?;
-        let output = self.outputs[self.line(out, out_vc)];
-        if output.holder.is_some() || !self.classes.owns(front.lane.class, out_vc) {
-            return None;
+        if self.is_free_for(front.lane.class, out, out_vc) {
+            Some(out)
+        } else {
+            None
         }
-        Some(out)
     }
 
     fn hold(&mut self, port: u8, vc: u8, out: u8, out_vc: u8)

@@ -1,4 +1,4 @@
-use Rattle.std.proofs.Common.{◌+◌, ◌≡◌, ◌&&◌, ◌||◌, ◌==◌, not, nat_lt, if◌then◌else◌, ℕ}
+use Rattle.std.proofs.Common.{◌+◌, ◌≡◌, ◌&&◌, ◌||◌, ◌==◌, not, nat_lt, if◌then◌else◌, ℕ, true, false}
 use Rattle.std.proofs.Common.{Option, None, refl, ap, sym, ◌∙◌, subst}
 use Rattle.std.specs.Prelude.{is_some}
 use Rattle.worm_router.specs.Busy.{IsFiled, is_occupied, owes}
@@ -7,9 +7,12 @@ use Rattle.worm_vcalloc.specs.ChannelSet.{has}
 use Rattle.std.proofs.Math.Bool.{not-not}
 use Rattle.worm_router.proofs.Filed.{filed, inside_of, owes_more}
 use Rattle.worm_router.specs.declared.busy.BusyChannels.{BusyChannels}
-use Rattle.worm_router.specs.Router.{RouterState, ChannelState, router_state, terminal}
+use Rattle.worm_records.specs.declared.InRecord.TheVariants.{Idle}
+use Rattle.worm_router.specs.Router.{RouterState, ChannelState, router_state, terminal, in_state, input_at, output_at}
 use Rattle.worm_router.proofs.Leaving.{may_leave}
-use Rattle.worm_router.proofs.AfterSending.{IsLeaving, IsOut, leaving_of, closed_kept, followed_kept}
+use Rattle.worm_router.proofs.ChangesSound.{input_read}
+use Rattle.worm_router.proofs.Places.{output_read}
+use Rattle.worm_router.proofs.AfterSending.{IsLeaving, IsOut, leaving_of, left_is, closed_kept, followed_kept}
 use Rattle.worm_router.proofs.router.Router.let_out.Goals.{After-index_mut-output, After-forget_full}
 use Rattle.worm_router.proofs.router.Router.let_out.Goals as goal
 
@@ -106,3 +109,35 @@ invariant_of-self-else-is_closing c =
     let it = leaves (goal.at.invariant_of-self-else-is_closing c).After-index_mut-output in
     followed_kept _ _ _ _ _ _ _ _ _ _ _ _ _ _ _ _ _ c.self.invariant it (out at it) _ _ c.spend.ensures
     (filed _ _ _ _ _ c.insert_if-else-is_closing.ensures)
+
+-- and it is written as a Send leaves it
+
+here : (c : After-index_mut-output) → c.index_mut-channel.result.now ≡ input_at c.args.self.now c.args.port c.args.vc
+here c =
+    input_read (was c) c.args.self.now c.args.port c.args.vc c.line-i.result c.index_mut-channel.result.now
+    c.self.view_is c.index_mut-channel.ensures.value c.line-i.ensures.value c.line-i.ensures.in_inputs
+
+there : (c : After-index_mut-output) → c.index_mut-output.result.now ≡ output_at c.args.self.now c.args.out c.args.flit.vc
+there c =
+    output_read (was c) c.args.self.now c.args.out c.args.flit.vc c.line-o.result c.index_mut-output.result.now
+    c.self.view_is c.index_mut-output.ensures.value c.line-o.ensures.value c.line-o.ensures.in_outputs
+
+pub returns-then-is_closing : goal.returns-then-is_closing
+returns-then-is_closing c =
+    let at = (goal.at.returns-then-is_closing c).After-index_mut-output in
+    left_is (was at) c.args.self.now c.args.port c.args.vc c.line-i.result c.args.out c.line-o.result c.args.flit
+    c.index_mut-channel.result.now c.close.new.self c.index_mut-output.result.now c.release.new.self
+    c.credit_of-spent.result c.owed_for-more_owed.result true c.self.view_is c.requires.ready
+    (sym c.is_closing.ensures ∙ c.if-is_closing.true) c.line-i.ensures.value c.line-o.ensures.value (here at) (there at)
+    c.credit_of-spent.ensures.value c.owed_for-more_owed.ensures.value
+    (c.close.ensures ∙ ap (λ (k : ChannelState). in_state k Idle) c.let_out.ensures)
+    (c.release.ensures ∙ ap (λ (u : OutRecord). record u { holder = None }) c.spend.ensures)
+
+pub returns-else-is_closing : goal.returns-else-is_closing
+returns-else-is_closing c =
+    let at = (goal.at.returns-else-is_closing c).After-index_mut-output in
+    left_is (was at) c.args.self.now c.args.port c.args.vc c.line-i.result c.args.out c.line-o.result c.args.flit
+    c.index_mut-channel.result.now c.let_out.new.self c.index_mut-output.result.now c.spend.new.output
+    c.credit_of-spent.result c.owed_for-more_owed.result false c.self.view_is c.requires.ready
+    (sym c.is_closing.ensures ∙ c.if-is_closing.false) c.line-i.ensures.value c.line-o.ensures.value (here at) (there at)
+    c.credit_of-spent.ensures.value c.owed_for-more_owed.ensures.value c.let_out.ensures c.spend.ensures
