@@ -10,7 +10,7 @@ ghost use Rattle.worm_split.specs.Splits.{part_at};
 
 use crate::apart::TakenApart;
 use crate::ends::{End, EndPair};
-use crate::part::Part;
+use crate::part::{Part, Pieces};
 use std::mem::replace;
 use std::sync::Wait;
 use worm_core::{LinkState, Net, NetParts, Region};
@@ -134,13 +134,7 @@ fn gather(mut parts: Vec<Part>) -> TakenApart
     let Some(last) = parts.pop() else {
         unreachable!()
     };
-    let Part {
-        region,
-        ends,
-        opening: _,
-        pairs: _,
-        kept,
-    } = last;
+    let Pieces { region, ends, kept } = last.into_pieces();
     let Some(mut whole) = kept else {
         unreachable!()
     };
@@ -148,13 +142,11 @@ fn gather(mut parts: Vec<Part>) -> TakenApart
     whole.recall();
     whole.put_back(region, ends);
     while let Some(part) = parts.pop() {
-        let Part {
+        let Pieces {
             region,
             ends,
-            opening: _,
-            pairs: _,
             kept: _,
-        } = part;
+        } = part.into_pieces();
         region.recall();
         whole.put_back(region, ends);
     }

@@ -19,6 +19,7 @@ use Rattle.worm_router.proofs.router.Router.route.Goals as goal
 use Rattle.worm_router.proofs.router.Router.route.Goals.{in-Idle, in_default}
 
 -- the channel that is written was read as idle
+
 pub route_to-requires : goal.route_to-requires
 route_to-requires c =
     let input = input_of _ c.args.self.now c.args.port c.args.vc c.line-i.result c.index_mut-channel.result.now
