@@ -6,12 +6,13 @@ use Rattle.std.proofs.lemmas.List.Elements.{All-get_or}
 use Rattle.worm_flit.specs.declared.Flit.{Flit}
 use Rattle.worm_flit.specs.Stamps.{with_channel}
 use Rattle.worm_mesh.specs.Address.{node_count}
+use Rattle.worm_route.specs.Route.{port_of}
 use Rattle.worm_records.specs.declared.InRecord.{InRecord}
 use Rattle.worm_records.specs.declared.InRecord.TheVariants.{Idle, Waiting, Active}
 use Rattle.worm_vcalloc.specs.ChannelSet.{has}
 use Rattle.worm_router.specs.Router.{RouterState, ChannelState, IsRouter, IsChannel, IsPlace, StateFits, MayLeave}
 use Rattle.worm_router.specs.Router.{terminal, width, line, fresh_channel, input_at, is_linked, output_at, leaving}
-use Rattle.worm_router.specs.Router.{leaving_by}
+use Rattle.worm_router.specs.Router.{front_port, leaving_by}
 use Rattle.worm_router.specs.Busy.{IsSetOf, is_occupied}
 use Rattle.worm_router.proofs.Laws.{line-places}
 
@@ -91,6 +92,13 @@ leaving_is r port vc out out_vc c front credit owe is active first a b =
           ∙ ap (λ k. if k && (not (is_linked r port) || nat_lt c.owed r.depth)
           then Some (out, with_channel front out_vc) else None) (sym a)
           ∙ ap (λ k. if credit && k then Some (out, with_channel front out_vc) else None) (sym b)
+
+-- the port by which a front flit's route leaves
+pub front_port_is : (r : RouterState) (fs : List Flit) (front : Flit) → slice_get fs 0 ≡ Some front
+    → front_port r fs ≡ port_of r.mesh r.node front.lane.dst
+front_port_is r [] front first = absurd (cc)
+front_port_is r (f ∷ fs) front first =
+    let same : f ≡ front = cc in ap (λ (g : Flit). port_of r.mesh r.node g.lane.dst) same
 
 -- a channel whose front may leave has a flit
 leaves_some : (r : RouterState) (port : ℕ) (c : ChannelState) (s : InRecord) (fs : List Flit) (d : ℕ × Flit)

@@ -1,12 +1,14 @@
 use Rattle.worm_flit.specs.Channels.{class_bits}
-use Rattle.std.proofs.Common.{refl, slice_get, Some, sym, ap, ◌∙◌, inr, ◌≡◌}
+use Rattle.std.proofs.Common.{refl, slice_get, slice_set, Some, sym, ap, ◌∙◌, inr, ◌≡◌}
 use Rattle.std.proofs.lemmas.List.Elements.{All-set}
 use Rattle.worm_router.specs.Allocation.{asking}
 use Rattle.worm_router.specs.Demand.{DemandView}
 use Rattle.worm_router.specs.Busy.{HasFront, is_occupied, owes, port_held}
-use Rattle.worm_router.specs.Router.{ChannelState, RouterState}
+use Rattle.worm_route.specs.Route.{port_of}
+use Rattle.worm_router.specs.Router.{ChannelState, RouterState, front_port, in_state, input_at}
 use Rattle.worm_router.proofs.Places.{input_of}
-use Rattle.worm_router.proofs.ChangesSound.{input_set_sound, read_sound, state_sound}
+use Rattle.worm_router.proofs.ChangesSound.{input_read, input_set_sound, read_sound, state_sound}
+use Rattle.worm_router.proofs.Leaving.{front_port_is}
 use Rattle.worm_router.proofs.Filed.{busy_filed}
 use Rattle.worm_records.specs.declared.InRecord.TheVariants.{Idle, Waiting}
 use Rattle.worm_router.proofs.Holders.{holders_in}
@@ -88,3 +90,27 @@ invariant_of-self c =
       full = full_kept _ _ _ _ _ _ input _ _ _ refl
           (ap (λ (x : ChannelState). x.buffer) c.route_to.ensures) c.self.invariant.full;
     }
+
+pub returns-clause-after : goal.returns-clause-after
+returns-clause-after c =
+    let now = c.args.self.now in
+    let written = input_read _ now c.args.port c.args.vc c.line-i.result c.index_mut-channel.result.now c.self.view_is
+    c.index_mut-channel.ensures.value c.line-i.ensures.value c.line-i.ensures.in_inputs in
+    let read = input_read _ now c.args.port c.args.vc c.line-i.result c.index-channel.result.now c.self.view_is
+    c.index-channel.ensures c.line-i.ensures.value c.line-i.ensures.in_inputs in
+    let front : slice_get (input_at now c.args.port c.args.vc).buffer 0 ≡ Some c.in-Some.front =
+    ap (λ (x : ChannelState). slice_get x.buffer 0) (sym read) ∙ sym c.flit_at.ensures ∙ c.in-Some.is in
+    let out : c.port-out.result ≡ front_port now (input_at now c.args.port c.args.vc).buffer =
+    c.port-out.ensures.value
+    ∙ ap (λ (r : RouterState). port_of r.mesh r.node c.in-Some.front.lane.dst) c.self.view_is
+    ∙ sym (front_port_is now (input_at now c.args.port c.args.vc).buffer c.in-Some.front front) in
+    ap (λ (r : RouterState). record r { inputs = slice_set r.inputs c.line-i.result c.route_to.new.self })
+    c.self.view_is
+    ∙ ap (λ (x : ChannelState). record now { inputs = slice_set now.inputs c.line-i.result x }) (c.route_to.ensures
+    ∙ ap (λ (x : ChannelState). in_state x (Waiting c.port-out.result)) written
+    ∙ ap (λ o. in_state (input_at now c.args.port c.args.vc) (Waiting o)) out)
+    ∙ ap (λ k. record now {
+      inputs = slice_set now.inputs k
+          (in_state (input_at now c.args.port c.args.vc)
+          (Waiting (front_port now (input_at now c.args.port c.args.vc).buffer)));
+    }) c.line-i.ensures.value
