@@ -1,4 +1,4 @@
-use Rattle.std.proofs.Common.{◌∷◌, [], ◌++◌, ap, subst, sym}
+use Rattle.std.proofs.Common.{rules, ◌∷◌, [], ◌++◌, ap, subst, sym}
 use Rattle.crossbeam_queue.specs.Passes.{view}
 use Rattle.worm_flit.specs.declared.Flit.{Flit}
 use Rattle.worm_flit.specs.Packing.{flit_of}
@@ -17,3 +17,9 @@ push_as-requires-clause-rule g c =
           (history_grows before.link _ _ c.requires.continues c.requires.crossing)),
       learns_sent flit_of IsWord IsLinkHistory _ _ may,
     )
+
+pub returns-in-Err-clause-landed : goal.returns-in-Err-clause-landed
+returns-in-Err-clause-landed g c = search rules
+
+pub returns-in-Ok-clause-landed : goal.returns-in-Ok-clause-landed
+returns-in-Ok-clause-landed g c = search rules

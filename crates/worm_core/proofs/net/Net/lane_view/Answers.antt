@@ -1,3 +1,4 @@
+use Rattle.std.proofs.Common.{rules}
 use Rattle.worm_core.proofs.ViewCuts.{view_is_cut, packets_are_cut}
 use Rattle.worm_core.proofs.net.Net.lane_view.Goals as goal
 
@@ -12,3 +13,6 @@ returns-clause-packets_cut c = λ k.
     rw (c.in_ok-underway.ensures, c.fabric-fabric.ensures.same)
     (packets_are_cut c.args.self.now c.fabric-fabric.ensures.sound c.args.lane c.requires.src c.requires.dst
     c.requires.class k)
+
+pub returns-clause-delivered : goal.returns-clause-delivered
+returns-clause-delivered c = search rules

@@ -1,4 +1,4 @@
-use Rattle.std.proofs.Common.{subst}
+use Rattle.std.proofs.Common.{rules, subst}
 use Rattle.worm_region.specs.Answers.{Answers, ArbitersStand}
 use Rattle.worm_region.specs.Runs.{event_of}
 use Rattle.worm_region.specs.State.{NetState, IsNet}
@@ -45,3 +45,6 @@ returns-clause-pointers c =
 
 pub step-requires : goal.step-requires
 step-requires c = c.self.invariant.all_owned
+
+pub returns-clause-asked : goal.returns-clause-asked
+returns-clause-asked c = search rules

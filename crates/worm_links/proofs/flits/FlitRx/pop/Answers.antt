@@ -1,4 +1,4 @@
-use Rattle.std.proofs.Common.{◌++◌, ap, subst}
+use Rattle.std.proofs.Common.{rules, ◌++◌, ap, subst}
 use Rattle.worm_flit.specs.Packing.{flit_of}
 use Rattle.worm_flit.specs.Stamps.{on_channel}
 use Rattle.worm_flit.specs.Worms.{Continues}
@@ -21,3 +21,12 @@ pub returns-clause-crossing : goal.returns-clause-crossing
 returns-clause-crossing c =
     subst (λ (s : RxView). MayCross s.link c.flit_in.result) c.self.view_is
     (pop_tells _ _ _ _ c.flit_in.ensures c.in_ok-word.ensures.rule).1
+
+pub returns-clause-none : goal.returns-clause-none
+returns-clause-none c = search rules
+
+pub returns-clause-taken : goal.returns-clause-taken
+returns-clause-taken c = search rules
+
+pub flit_in-requires : goal.flit_in-requires
+flit_in-requires c = search rules

@@ -1,5 +1,5 @@
 -- the count goes on where there is a neighbour
-use Rattle.std.proofs.Common.{arith, sym, ◌∙◌}
+use Rattle.std.proofs.Common.{rules, arith, sym, ◌∙◌}
 use Rattle.worm_mesh.proofs.Numbers.{links_before-some, links_before-none}
 use Rattle.worm_mesh.proofs.mesh.Mesh.link_ends_at.Goals as goal
 use Rattle.worm_mesh.proofs.mesh.Mesh.link_ends_at.Goals.{in-Some+else-before-number, in_default}
@@ -21,3 +21,6 @@ loop-out_port-preserved c =
           let one = w.before-is in
           (omega (arith, same), omega arith)
     ]
+
+pub returns-then-before-number : goal.returns-then-before-number
+returns-then-before-number c = search rules

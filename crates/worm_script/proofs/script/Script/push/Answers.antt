@@ -14,3 +14,6 @@ invariant_of-self-2 c =
     (grind (arith, common_steps)) c.recall.ensures (search rules) (search rules) entries (search rules)
     (λ none. c.lead_to_end.ensures.none none ∙ start)
     (λ some. c.lead_to_end.ensures.some some ∙ ap (λ (gs : List ℕ). set gs (last - 1) (length gs - last)) start)
+
+pub returns-clause-ok : goal.returns-clause-ok
+returns-clause-ok c = search rules
