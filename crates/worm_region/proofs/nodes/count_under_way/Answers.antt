@@ -1,6 +1,7 @@
 use Rattle.std.proofs.Common.{◌≡◌, ◌+◌, ◌∙◌, ap, arith, length, refl, sym, take}
 use Rattle.std.proofs.lemmas.List.Sums.{sum_by_more}
 use Rattle.worm_region.specs.UnderWay.{accepted_by, accepted_in, taken_by, taken_in}
+use Rattle.std.proofs.lemmas.Grind.{common_steps}
 use Rattle.worm_region.proofs.nodes.count_under_way.Goals as goal
 
 pub loop-node-init : goal.loop-node-init
@@ -31,3 +32,6 @@ loop-node-preserved c =
           );
       taken = omega (arith, taken, delivered, c.loop-node.invariant.taken, c.in_ok-taken.ensures);
     }
+
+pub returns : goal.returns
+returns c = grind (arith, common_steps)
