@@ -1,10 +1,11 @@
-use Rattle.std.proofs.Common.{◌≡◌, true, ◌∙◌, sym, subst}
+use Rattle.std.proofs.Common.{◌≡◌, true, ◌∙◌, arith, rules, sym, subst}
 use Rattle.std.specs.Result.{result_err}
 use Rattle.worm_region.specs.Workable.{owned}
 use Rattle.worm_region.specs.declared.owner.Owner.{Owner}
 use Rattle.worm_split.specs.Apart.{IsKept}
 use Rattle.worm_split.specs.PartState.{PartState, part_state}
 use Rattle.worm_split.proofs.OwnMoves.{inside_now, keeps_asked, part_with_net}
+use Rattle.std.proofs.lemmas.Grind.{common_steps}
 use Rattle.worm_split.proofs.part.Part.ask_source.Goals as goal
 
 pub invariant_of-self : goal.invariant_of-self
@@ -17,3 +18,9 @@ invariant_of-self c =
       part_with_net p c.self.invariant.0 c.ask_source.new.self kept.0 kept.1,
       subst (λ (w : Owner). IsKept i.opening.value w i.kept) (sym kept.1.own) c.self.invariant.1,
     )
+
+pub returns-then-is_empty-clause-asks : goal.returns-then-is_empty-clause-asks
+returns-then-is_empty-clause-asks c = grind (arith, common_steps)
+
+pub returns-clause-asks : goal.returns-clause-asks
+returns-clause-asks c = search rules

@@ -1,4 +1,4 @@
-use Rattle.std.proofs.Common.{List, Option, subst}
+use Rattle.std.proofs.Common.{List, Option, rules, subst}
 use Rattle.std.specs.Result.{result_err}
 use Rattle.worm_script.specs.Script.{due}
 use Rattle.worm_region.specs.State.{IsFramed}
@@ -26,6 +26,9 @@ module _ (g : given.Over) (c : goal.After-node_turns g) where
 
   words : HaveWords entries
   words = subst HaveWords c.due-due.ensures c.recall.ensures
+
+pub returns-clause-exact : goal.returns-clause-exact
+returns-clause-exact g c = search rules
 
 pub returns-clause-sources : goal.returns-clause-sources
 returns-clause-sources g c =
