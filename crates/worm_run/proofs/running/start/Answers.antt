@@ -1,3 +1,4 @@
+use Rattle.std.proofs.Common.{rules}
 use Rattle.worm_script.proofs.script.Script.TheSendSync.{the_sync as script_sync}
 use Rattle.worm_run.proofs.Sent.{part_send, worked_send}
 use denote.Param.Send.{sendable}
@@ -12,3 +13,6 @@ spawn_with-requires-send-F g t c κs =
 
 pub spawn_with-requires-send-T : goal.spawn_with-requires-send-T
 spawn_with-requires-send-T g t c κs = let a = worked_send in search (sendable, crosses) depth 60
+
+pub returns-clause-refused : goal.returns-clause-refused
+returns-clause-refused g c = search rules

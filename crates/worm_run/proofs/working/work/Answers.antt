@@ -53,3 +53,6 @@ returns g c =
       passed = subst (λ (n : ℕ). MayPassBelow (g.G.Gate.may_pass c.args.gate.now) c.args.worker n) all before.passed;
       ends = subst (λ (n : ℕ). HasTurned c.args.script.now n c.args.part c.loop-turn.part) all before.turned;
     }
+
+pub returns-then-not-pass : goal.returns-then-not-pass
+returns-then-not-pass g c = search rules
