@@ -72,6 +72,8 @@ fn run_and_report_together<R: Threads + Wait + Sync, G: Gate + Sync, W: Write>(
     report_run(alloc, &ended.net, &summary, ended.fault, out)
 }
 
+/// Not inlined: so a run on one thread has no frame that holds the parts of workers.
+#[inline(never)]
 fn run_by_workers<R: Threads + Wait + Sync, N: Read, F: Read, G: Gate + Sync, W: Write>(
     rt: &R,
     alloc: Global,
