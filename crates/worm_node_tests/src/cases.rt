@@ -17,5 +17,11 @@ pub fn mesh_of(rt: &impl Abort, radices: &[u8]) -> Mesh
 
 /// What was printed reads so.
 pub fn reads<E: Debug>(rt: &impl Abort, printed: Result<String, E>, text: &str) {
-    assert_eq!(rt; printed.expect(rt, "memory").as_str(), text);
+    are_equal(rt, printed.expect(rt, "memory").as_str(), text);
+}
+
+/// What is found is what is wanted. An `assert_eq!` is proved with all that its function holds, so that one here costs
+/// less than several there.
+pub fn are_equal<T: PartialEq + Debug + Drop>(rt: &impl Abort, found: T, wanted: T) {
+    assert_eq!(rt; found, wanted);
 }

@@ -2,7 +2,7 @@
 
 ghost use Rattle.std.specs.Prelude.{◌<◌};
 
-use crate::cases::reads;
+use crate::cases::{are_equal, reads};
 use std::process::Abort;
 use worm_cases::lane;
 use worm_flit::{
@@ -26,7 +26,7 @@ const FAR: Flit = Flit {
 
 /// Words make no packet, for this fault.
 fn are_refused(rt: &impl Abort, words: &[u32], fault: PacketFault) {
-    assert_eq!(rt; Packet::new(lane(0, 1, 0), words).err(), Some(fault));
+    are_equal(rt, Packet::new(lane(0, 1, 0), words).err(), Some(fault));
 }
 
 /// The packet of these words from node 0 to node 1.
@@ -36,8 +36,8 @@ fn packet_of(rt: &impl Abort, words: &[u32]) -> Packet {
 
 /// The packet has so many words, and its lane.
 fn is_kept(rt: &impl Abort, packet: &Packet, count: usize) {
-    assert_eq!(rt; packet.words().len(), count);
-    assert_eq!(rt; packet.lane(), lane(0, 1, 0));
+    are_equal(rt, packet.words().len(), count);
+    are_equal(rt, packet.lane(), lane(0, 1, 0));
 }
 
 #[test]
@@ -73,7 +73,7 @@ fn has_flit(rt: &impl Abort, packet: &Packet, number: u16, index: u8, kind: Kind
         word,
     };
     assert!(rt; usize::from(index) < packet.words().len());
-    assert_eq!(rt; flit_at(packet, number, index), flit);
+    are_equal(rt, flit_at(packet, number, index), flit);
 }
 
 #[test]
@@ -90,12 +90,12 @@ fn a_packet_is_cut_into_flits(rt: HostRuntime) {
         word: 0,
         ..FAR
     };
-    assert_eq!(rt; close_flit(FAR.lane, 9), mark);
+    are_equal(&rt, close_flit(FAR.lane, 9), mark);
 }
 
 /// Whether a flit of this kind is the first of its packet, and whether it is the last.
 fn is_kind(rt: &impl Abort, kind: Kind, opens: bool, closes: bool) {
-    assert_eq!(rt; (is_opening(kind), is_closing(kind)), (opens, closes));
+    are_equal(rt, (is_opening(kind), is_closing(kind)), (opens, closes));
 }
 
 #[test]
@@ -109,13 +109,13 @@ fn kinds_open_and_close(rt: HostRuntime) {
 
 /// The word stands for the flit.
 fn is_word_of(rt: &impl Abort, flit: Flit, word: u128) {
-    assert_eq!(rt; pack(flit), word);
-    assert_eq!(rt; unpack(word), Some(flit));
+    are_equal(rt, pack(flit), word);
+    are_equal(rt, unpack(word), Some(flit));
 }
 
 /// The word stands for no flit.
 fn is_no_word(rt: &impl Abort, word: u128) {
-    assert_eq!(rt; unpack(word), None);
+    are_equal(rt, unpack(word), None);
 }
 
 #[test]
@@ -150,16 +150,17 @@ fn channels_of(rt: &impl Abort, counts: &[u8]) -> ClassChannels {
 /// The class owns so many channels, from this one on.
 fn has_class(rt: &impl Abort, classes: &ClassChannels, class: u8, first: u8, count: u8) {
     assert!(rt; class < classes.classes());
-    assert_eq!(rt;
+    are_equal(
+        rt,
         (classes.first(class), classes.count(class)),
-        (first, count)
+        (first, count),
     );
 }
 
 /// The channel is the class's.
 fn is_owned(rt: &impl Abort, classes: &ClassChannels, channel: u8, class: u8) {
     assert!(rt; channel < classes.total());
-    assert_eq!(rt; classes.owner(channel), class);
+    are_equal(rt, classes.owner(channel), class);
 }
 
 #[test]
@@ -170,7 +171,7 @@ fn classes_own_channels(rt: HostRuntime) {
     are_no_channels(&rt, &[1, 1, 1, 1, 1]);
     are_no_channels(&rt, &[]);
     let classes = channels_of(&rt, &[5, 3]);
-    assert_eq!(rt; (classes.classes(), classes.total()), (2, 8));
+    are_equal(&rt, (classes.classes(), classes.total()), (2, 8));
     has_class(&rt, &classes, 0, 0, 5);
     has_class(&rt, &classes, 1, 5, 3);
     is_owned(&rt, &classes, 4, 0);
@@ -188,7 +189,7 @@ fn put_all(rt: &impl Abort, set: &mut SmallSet, changes: &[(u8, bool)]) {
 
 /// The least number of the set is this, and goes out of it; none where the set is empty.
 fn gives(rt: &impl Abort, set: &mut SmallSet, number: Option<u8>) {
-    assert_eq!(rt; set.pop_first(), number);
+    are_equal(rt, set.pop_first(), number);
 }
 
 #[test]

@@ -2,6 +2,7 @@
 
 ghost use Rattle.std.specs.Prelude.{◌≡◌, ◌<◌, length};
 
+use crate::cases::are_equal;
 use std::alloc::Global;
 use std::process::Abort;
 use worm_cases::{lane, single};
@@ -32,18 +33,18 @@ fn packet_of(rt: &impl Abort, lane: Lane, words: &[u32]) -> Packet {
 fn accepts_all(rt: &impl Abort, source: &mut Source) {
     let packet = packet_of(rt, lane(0, 1, 0), &[7]);
     for number in 0..65_535u16 {
-        assert_eq!(rt; source.offer(&packet), Ok(number));
+        are_equal(rt, source.offer(&packet), Ok(number));
     }
 }
 
 /// The source refuses a packet of the lane, for this fault.
 fn refuses(rt: &impl Abort, source: &mut Source, lane: Lane, fault: OfferFault) {
-    assert_eq!(rt; source.offer(&packet_of(rt, lane, &[7])), Err(fault));
+    are_equal(rt, source.offer(&packet_of(rt, lane, &[7])), Err(fault));
 }
 
 /// The source gives this answer where it is asked to close the lane.
 fn closes(rt: &impl Abort, source: &mut Source, lane: Lane, answer: Result<u16, OfferFault>) {
-    assert_eq!(rt; source.close(lane), answer);
+    are_equal(rt, source.close(lane), answer);
 }
 
 #[test]
@@ -88,7 +89,7 @@ fn a_sink_takes_a_flit(rt: HostRuntime) {
     let mut sink = Sink::new(rt.alloc(), 1);
     assert!(rt; sink.delivered().is_empty());
     takes(&rt, &mut sink, single(0, 5));
-    assert_eq!(rt; sink.delivered(), [single(0, 5)].as_slice());
+    are_equal(&rt, sink.delivered(), [single(0, 5)].as_slice());
 }
 
 /// The mark of the lane from node 0 to node 1, behind its first packet.
@@ -109,10 +110,10 @@ fn mark() -> Flit
 fn a_sink_keeps_what_comes(rt: HostRuntime) {
     let mut sink = Sink::new(rt.alloc(), 1);
     takes(&rt, &mut sink, single(0, 17));
-    assert_eq!(rt; sink.delivered(), [single(0, 17)].as_slice());
+    are_equal(&rt, sink.delivered(), [single(0, 17)].as_slice());
     assert!(rt; !sink.closed(lane(0, 1, 0)));
     takes(&rt, &mut sink, mark());
-    assert_eq!(rt; sink.delivered(), [single(0, 17), mark()].as_slice());
+    are_equal(&rt, sink.delivered(), [single(0, 17), mark()].as_slice());
     assert!(rt; sink.closed(lane(0, 1, 0)));
 }
 
@@ -121,7 +122,7 @@ fn accepts(rt: &impl Abort, source: &mut Source, packet: &Packet, number: u16)
     ensures { source.new.channels ≡ source.old.channels }
 {
     match source.offer(packet) {
-        Ok(given) => assert_eq!(rt; given, number),
+        Ok(given) => are_equal(rt, given, number),
         Err(fault) => panic!(rt; "{fault:?}"),
     }
 }
@@ -150,17 +151,18 @@ fn is_next(rt: &impl Abort, source: &Source, class: u8, word: u32, vc: u8)
     requires { class < length source.now.channels }
 {
     let front = source.front(class).expect(rt, "a flit waits");
-    assert_eq!(rt; (front.word, front.vc), (word, vc));
-    assert_eq!(rt; source.next_channel(class), Some(vc));
+    are_equal(rt, (front.word, front.vc), (word, vc));
+    are_equal(rt, source.next_channel(class), Some(vc));
 }
 
 /// No flit of the class waits.
 fn has_none(rt: &impl Abort, source: &Source, class: u8)
     requires { class < length source.now.channels }
 {
-    assert_eq!(rt;
+    are_equal(
+        rt,
         (source.front(class), source.next_channel(class)),
-        (None, None)
+        (None, None),
     );
 }
 
@@ -177,8 +179,8 @@ fn feed(rt: &impl Abort, source: &mut Source, class: u8)
 fn has_fed(rt: &impl Abort, source: &Source, class: u8, fed: usize, accepted: usize)
     requires { class < length source.now.channels }
 {
-    assert_eq!(rt; source.fed_count(class), fed);
-    assert_eq!(rt; source.injected(class).len(), accepted);
+    are_equal(rt, source.fed_count(class), fed);
+    are_equal(rt, source.injected(class).len(), accepted);
 }
 
 #[test]

@@ -2,7 +2,7 @@
 
 ghost use Rattle.std.specs.Prelude.{◌<◌};
 
-use crate::cases::mesh_of;
+use crate::cases::{are_equal, mesh_of};
 use std::alloc::Global;
 use std::process::Abort;
 use worm_cases::single;
@@ -27,19 +27,23 @@ fn way_by(wiring: &Wiring, node: u8, port: u8) -> Option<Way> {
 
 /// This is the way on by the port; none where there is no neighbour.
 fn leads(rt: &impl Abort, wiring: &Wiring, node: u8, port: u8, way: Option<Way>) {
-    assert_eq!(rt; way_by(wiring, node, port), way, "at {node} {port}");
+    are_equal(
+        rt,
+        (node, port, way_by(wiring, node, port)),
+        (node, port, way),
+    );
 }
 
 #[test]
 fn links_are_numbered_by_node_and_port(rt: HostRuntime) {
     let wiring = wiring_of(&rt, &[3, 2]);
-    assert_eq!(rt; (wiring.nodes(), wiring.terminal()), (6, 4));
+    are_equal(&rt, (wiring.nodes(), wiring.terminal()), (6, 4));
     // Out of nodes 0 to 5 go 2, 3, 2, 2, 3 and 2 links.
     leads(&rt, &wiring, 4, 1, Some((5, 0, 10, 12)));
     leads(&rt, &wiring, 2, 1, None);
     leads(&rt, &wiring, 5, 6, None);
-    assert_eq!(rt; wiring.link_out(1, 3), Some(4));
-    assert_eq!(rt; wiring.link_into(1, 3), Some(9 + 2));
+    are_equal(&rt, wiring.link_out(1, 3), Some(4));
+    are_equal(&rt, wiring.link_into(1, 3), Some(9 + 2));
 }
 
 /// A link with this room, onto which flits of these words came, and credits of these channels.
@@ -64,21 +68,21 @@ fn link_with(
 
 /// So many flits are on the link, and this one at this place.
 fn has_flit(rt: &impl Abort, link: &LinkState, count: usize, place: usize, flit: Flit) {
-    assert_eq!(rt; link.count(), count);
-    assert_eq!(rt; link.flits.get(place).copied(), Some(flit));
+    are_equal(rt, link.count(), count);
+    are_equal(rt, link.flits.get(place).copied(), Some(flit));
 }
 
 /// The front credit is of this channel, and is dropped; none where there is no credit.
 fn gives_credit(rt: &impl Abort, link: &mut LinkState, vc: Option<u8>) {
-    assert_eq!(rt; link.credits.pop_front(), vc);
+    are_equal(rt, link.credits.pop_front(), vc);
 }
 
 #[test]
 fn a_link_keeps_its_order(rt: HostRuntime) {
     let mut link = link_with(&rt, rt.alloc(), 3, &[5, 6, 7], &[0, 2]);
-    assert_eq!(rt; link.flits.pop_front(), Some(single(0, 5)));
+    are_equal(&rt, link.flits.pop_front(), Some(single(0, 5)));
     has_flit(&rt, &link, 2, 1, single(0, 7));
-    assert_eq!(rt; link.flits.front().copied(), Some(single(0, 6)));
+    are_equal(&rt, link.flits.front().copied(), Some(single(0, 6)));
     gives_credit(&rt, &mut link, Some(0));
     gives_credit(&rt, &mut link, Some(2));
     gives_credit(&rt, &mut link, None);
@@ -118,47 +122,67 @@ impl<R: Abort + AllocGlobal + Copy> Pair<R> {
 
     /// Whether nothing comes in at the node.
     fn brings_nothing(&self, node: u8, nothing: bool) {
-        assert_eq!(self.rt; self.links.brings_nothing(node), nothing, "at {node}");
+        are_equal(
+            &self.rt,
+            (node, self.links.brings_nothing(node)),
+            (node, nothing),
+        );
     }
 
     /// The first port of the node at which a flit comes in; none where none does.
     fn brings_flit(&self, node: u8, port: Option<u8>) {
-        assert_eq!(self.rt; first(self.links.flits_in(node)), port, "at {node}");
+        are_equal(
+            &self.rt,
+            (node, first(self.links.flits_in(node))),
+            (node, port),
+        );
     }
 
     /// The first port of the node at which a credit comes back; none where none does.
     fn brings_credit(&self, node: u8, port: Option<u8>) {
-        assert_eq!(self.rt; first(self.links.credits_in(node)), port, "at {node}");
+        are_equal(
+            &self.rt,
+            (node, first(self.links.credits_in(node))),
+            (node, port),
+        );
     }
 
     /// These are the numbers of the links out of the port and into it.
     fn are_numbered(&self, node: u8, port: u8, out: u16, into: u16) {
         assert!(self.rt; self.links.wiring().links_at(node, port).is_some());
         let links = self.links.wiring().links_beyond(node, port);
-        assert_eq!(self.rt; links.out, out);
-        assert_eq!(self.rt; links.into, into);
+        are_equal(&self.rt, links.out, out);
+        are_equal(&self.rt, links.into, into);
     }
 
     /// The flit that comes in next by the port has this word; none where none comes in.
     fn comes_next(&self, node: u8, port: u8, word: Option<u32>) {
         assert!(self.rt; self.links.wiring().links_at(node, port).is_some());
         let flit = self.links.front_in(node, port).copied();
-        assert_eq!(self.rt; flit, word.map(|word| single(0, word)), "at {node}");
+        are_equal(
+            &self.rt,
+            (node, flit),
+            (node, word.map(|word| single(0, word))),
+        );
     }
 
     /// The credit that comes back next by the port is of this channel; none where none comes back.
     fn comes_back(&self, node: u8, port: u8, vc: Option<u8>) {
         assert!(self.rt; self.links.wiring().links_at(node, port).is_some());
-        assert_eq!(self.rt; self.links.front_credit(node, port), vc, "at {node}");
+        are_equal(
+            &self.rt,
+            (node, self.links.front_credit(node, port)),
+            (node, vc),
+        );
     }
 
     /// On the link out of the port are so many flits, the last of this word.
     fn ends_with(&self, node: u8, port: u8, count: usize, word: u32) {
         assert!(self.rt; self.links.wiring().links_at(node, port).is_some());
-        assert_eq!(self.rt; self.links.count(node, port), count);
+        are_equal(&self.rt, self.links.count(node, port), count);
         assert!(self.rt; 0 < self.links.count(node, port));
         let last = self.links.count(node, port) - 1;
-        assert_eq!(self.rt; self.links.flit(node, port, last), single(0, word));
+        are_equal(&self.rt, self.links.flit(node, port, last), single(0, word));
     }
 
     /// The flit goes onto the link out of the port. The links are taken apart for it and made again, since only a link
@@ -210,7 +234,7 @@ impl<R: Abort + AllocGlobal + Copy> Pair<R> {
     fn take(&mut self, node: u8, port: u8, number: u16) {
         assert!(self.rt; self.links.wiring().links_at(node, port).is_some());
         let links = self.links.wiring().links_beyond(node, port);
-        assert_eq!(self.rt; links.into, number);
+        are_equal(&self.rt, links.into, number);
         self.links.pop(node, port);
     }
 
@@ -218,7 +242,7 @@ impl<R: Abort + AllocGlobal + Copy> Pair<R> {
     fn has_links(self, count: usize) {
         let Pair { rt, links } = self;
         let (states, _inboxes) = links.into_states();
-        assert_eq!(rt; states.len(), count);
+        are_equal(&rt, states.len(), count);
     }
 }
 

@@ -1,5 +1,6 @@
 //! Worked reports: two nodes in a line, one class, one channel.
 
+use crate::cases::are_equal;
 use std::alloc::Global;
 use std::process::Abort;
 use worm_cases::TWO_NODES;
@@ -89,7 +90,11 @@ fn rows_of_a_report(rt: HostRuntime) {
 
 /// The text has this fault.
 fn is_refused<R: Abort + AllocGlobal>(rt: &R, text: &[u8], line: u32, why: Why) {
-    assert_eq!(rt; fault_of(rt.alloc(), text), Some(TextFault { line, why }));
+    are_equal(
+        rt,
+        fault_of(rt.alloc(), text),
+        Some(TextFault { line, why }),
+    );
 }
 
 #[test]

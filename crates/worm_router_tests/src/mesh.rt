@@ -2,18 +2,22 @@
 
 ghost use Rattle.std.specs.Prelude.{◌<◌};
 
-use crate::cases::{mesh_of, reads};
+use crate::cases::{are_equal, mesh_of, reads};
 use std::process::Abort;
 use worm_mesh::{LinkEnds, Mesh, MeshFault};
 
 /// Radices make no mesh, for this fault.
 fn are_refused(rt: &impl Abort, radices: &[u8], fault: MeshFault) {
-    assert_eq!(rt; Mesh::new(radices), Err(fault), "at {radices:?}");
+    are_equal(rt, (radices, Mesh::new(radices)), (radices, Err(fault)));
 }
 
 /// The mesh with these radices has so many nodes.
 fn have_nodes(rt: &impl Abort, radices: &[u8], nodes: u16) {
-    assert_eq!(rt; mesh_of(rt, radices).nodes(), nodes, "at {radices:?}");
+    are_equal(
+        rt,
+        (radices, mesh_of(rt, radices).nodes()),
+        (radices, nodes),
+    );
 }
 
 #[test]
@@ -50,12 +54,20 @@ fn prints_a_fault_by_its_name(rt: HostRuntime) {
 
 /// The node beyond the port; none where there is no link.
 fn leads_to(rt: &impl Abort, mesh: &Mesh, node: u8, port: u8, beyond: Option<u8>) {
-    assert_eq!(rt; mesh.neighbour(node, port), beyond, "at {node} {port}");
+    are_equal(
+        rt,
+        (node, port, mesh.neighbour(node, port)),
+        (node, port, beyond),
+    );
 }
 
 /// The link that leaves the node by the port has this number; none where there is no link.
 fn is_numbered(rt: &impl Abort, mesh: &Mesh, node: u8, port: u8, number: Option<u16>) {
-    assert_eq!(rt; mesh.link_number(node, port), number, "at {node} {port}");
+    are_equal(
+        rt,
+        (node, port, mesh.link_number(node, port)),
+        (node, port, number),
+    );
 }
 
 /// There is no link at the port.
@@ -67,7 +79,7 @@ fn is_edge(rt: &impl Abort, mesh: &Mesh, node: u8, port: u8) {
 #[test]
 fn a_square_of_four(rt: HostRuntime) {
     let mesh = mesh_of(&rt, &[4, 4]);
-    assert_eq!(rt; mesh.links(), 48);
+    are_equal(&rt, mesh.links(), 48);
     leads_to(&rt, &mesh, 1, 1, Some(2));
     leads_to(&rt, &mesh, 2, 3, Some(6));
     leads_to(&rt, &mesh, 14, 2, Some(10));
@@ -88,31 +100,31 @@ fn has_ends(rt: &impl Abort, mesh: &Mesh, number: u16, start: (u8, u8), end: (u8
         to,
         in_port,
     };
-    assert_eq!(rt; mesh.link_ends(number), Some(ends));
+    are_equal(rt, mesh.link_ends(number), Some(ends));
 }
 
 #[test]
 fn a_line_of_two(rt: HostRuntime) {
     let mesh = mesh_of(&rt, &[2]);
-    assert_eq!(rt; mesh.links(), 2);
-    assert_eq!(rt; mesh.dims(), 1);
+    are_equal(&rt, mesh.links(), 2);
+    are_equal(&rt, mesh.dims(), 1);
     is_numbered(&rt, &mesh, 0, 1, Some(0));
     is_numbered(&rt, &mesh, 1, 0, Some(1));
     has_ends(&rt, &mesh, 0, (0, 1), (1, 0));
     has_ends(&rt, &mesh, 1, (1, 0), (0, 1));
-    assert_eq!(rt; mesh.link_ends(2), None);
+    are_equal(&rt, mesh.link_ends(2), None);
 }
 
 /// The dimension has this radix, and the node this digit in it.
 fn has_digit(rt: &impl Abort, mesh: &Mesh, dim: u8, radix: u8, node: u8, digit: u8) {
     assert!(rt; dim < mesh.dims() && u16::from(node) < mesh.nodes());
-    assert_eq!(rt; (mesh.radix(dim), mesh.digit(node, dim)), (radix, digit));
+    are_equal(rt, (mesh.radix(dim), mesh.digit(node, dim)), (radix, digit));
 }
 
 /// What leaves by the port enters by the other.
 pub fn is_opposite(rt: &impl Abort, mesh: &Mesh, port: u8, other: u8) {
     assert!(rt; port < 2 * mesh.dims());
-    assert_eq!(rt; mesh.opposite(port), other);
+    are_equal(rt, mesh.opposite(port), other);
 }
 
 /// The mesh is the one with these radices, and not the other.
@@ -123,7 +135,7 @@ fn is_mesh(rt: &impl Abort, mesh: &Mesh, radices: &[u8], others: &[u8]) {
 #[test]
 fn three_by_two(rt: HostRuntime) {
     let mesh = mesh_of(&rt, &[3, 2]);
-    assert_eq!(rt; (mesh.links(), mesh.nodes(), mesh.dims()), (14, 6, 2));
+    are_equal(&rt, (mesh.links(), mesh.nodes(), mesh.dims()), (14, 6, 2));
     is_numbered(&rt, &mesh, 0, 3, Some(1));
     is_numbered(&rt, &mesh, 1, 3, Some(4));
     has_digit(&rt, &mesh, 0, 3, 5, 2);

@@ -1,11 +1,12 @@
 //! The records of an input channel and of an output channel, through one packet.
 
+use crate::cases::are_equal;
 use std::process::Abort;
 use worm_records::{InRecord, OutRecord};
 
 /// The record is this one.
 fn is_input(rt: &impl Abort, record: InRecord, expected: InRecord) {
-    assert_eq!(rt; record, expected);
+    are_equal(rt, record, expected);
 }
 
 #[test]
@@ -21,7 +22,7 @@ fn a_packet_passes(rt: HostRuntime) {
 
 /// The record has this holder and so many credits.
 fn is_output(rt: &impl Abort, record: OutRecord, holder: Option<(u8, u8)>, credits: u8) {
-    assert_eq!(rt; record, OutRecord { holder, credits });
+    are_equal(rt, record, OutRecord { holder, credits });
 }
 
 #[test]

@@ -2,7 +2,7 @@
 
 ghost use Rattle.std.specs.Prelude.{◌<◌};
 
-use crate::cases::mesh_of;
+use crate::cases::{are_equal, mesh_of};
 use crate::mesh::is_opposite;
 use std::process::Abort;
 use worm_mesh::Mesh;
@@ -30,19 +30,19 @@ fn walked(rt: &impl Abort, mesh: &Mesh, src: u8, dst: u8) -> [u8; 8] {
 
 /// The route passes these nodes.
 fn passes<R: Abort + AllocGlobal>(rt: &R, mesh: &Mesh, nodes: [u8; 8], src: u8, dst: u8) {
-    assert_eq!(rt; walked(rt, mesh, src, dst), nodes);
+    are_equal(rt, walked(rt, mesh, src, dst), nodes);
 }
 
 /// The route takes so many links.
 fn takes(rt: &impl Abort, mesh: &Mesh, count: u8, src: u8, dst: u8) {
     assert!(rt; u16::from(src) < mesh.nodes() && u16::from(dst) < mesh.nodes());
-    assert_eq!(rt; hops(mesh, src, dst), count);
+    are_equal(rt, hops(mesh, src, dst), count);
 }
 
 /// The route to the node leaves these by these ports.
 fn leaves<R: Abort + AllocGlobal>(rt: &R, mesh: &Mesh, dst: u8, ports: &[(u8, u8)]) {
     for (here, port) in ports {
-        assert_eq!(rt; port_from(rt, mesh, *here, dst), *port, "at {here}");
+        are_equal(rt, (here, port_from(rt, mesh, *here, dst)), (here, *port));
     }
 }
 
@@ -58,10 +58,10 @@ fn routes_in_a_square_of_four(rt: HostRuntime) {
 fn are_crossed(rt: &impl Abort, mesh: &Mesh, links: &[(u8, u8)], within: bool) {
     assert!(rt; mesh.nodes() > 5);
     for (node, port) in links {
-        assert_eq!(rt;
-            crosses(mesh, *node, *port, 0, 5),
-            within,
-            "at {node} {port}"
+        are_equal(
+            rt,
+            (node, port, crosses(mesh, *node, *port, 0, 5)),
+            (node, port, within),
         );
     }
 }
@@ -85,10 +85,10 @@ fn routes_in_three_by_two(rt: HostRuntime) {
 fn turns_in_a_square_of_three(rt: HostRuntime) {
     let mesh = mesh_of(&rt, &[3, 3]);
     leaves(&rt, &mesh, 8, &[(0, 1), (1, 1), (2, 3)]);
-    assert_eq!(rt; mesh.dims(), 2);
+    are_equal(&rt, mesh.dims(), 2);
     is_opposite(&rt, &mesh, 1, 0);
     is_opposite(&rt, &mesh, 3, 2);
-    assert_eq!(rt; mesh.neighbour(2, 3), Some(5));
+    are_equal(&rt, mesh.neighbour(2, 3), Some(5));
 }
 
 /// The largest mesh, and a line: to the far corner and back.

@@ -2,6 +2,7 @@
 
 ghost use Rattle.std.specs.Prelude.{◌<◌};
 
+use crate::cases::are_equal;
 use crate::vcalloc::has_channels;
 use std::process::Abort;
 use worm_swalloc::{Ready, ReadyOuts, SwAlloc, SwGrant, SwGrants};
@@ -25,7 +26,7 @@ pub fn sends(vc: u8, out: u8) -> Option<SwGrant> {
 pub fn are_chosen(rt: &impl Abort, grants: &SwGrants, granted: &[(u8, Option<SwGrant>)]) {
     for (port, grant) in granted {
         assert!(rt; *port < 7);
-        assert_eq!(rt; grants[usize::from(*port)], *grant, "at {port}");
+        are_equal(rt, (port, grants[usize::from(*port)]), (port, *grant));
     }
 }
 

@@ -2,6 +2,7 @@
 
 ghost use Rattle.std.specs.Prelude.{◌<◌};
 
+use crate::cases::are_equal;
 use std::process::Abort;
 use worm_vcalloc::{
     Arbiter, ChannelMap, ChannelSet, FreeChannels, VcAlloc, VcGrants, VcRequest, VcRequests,
@@ -18,17 +19,21 @@ fn put_all(rt: &impl Abort, set: &mut ChannelSet, changes: &[(u8, u8, bool)]) {
 /// Whether the channel is in the set.
 fn holds(rt: &impl Abort, set: &ChannelSet, port: u8, channel: u8, within: bool) {
     assert!(rt; port < 7 && channel < 8);
-    assert_eq!(rt; set.contains(port, channel), within, "at {port} {channel}");
+    are_equal(
+        rt,
+        (port, channel, set.contains(port, channel)),
+        (port, channel, within),
+    );
 }
 
 /// The first channel of the set is this, and goes out of it; none where the set is empty.
 fn gives(rt: &impl Abort, set: &mut ChannelSet, place: Option<(u8, u8)>) {
-    assert_eq!(rt; set.pop_first(), place);
+    are_equal(rt, set.pop_first(), place);
 }
 
 /// The first port of the set is this, and its channels go out of it; none where the set is empty.
 fn gives_port(rt: &impl Abort, set: &mut ChannelSet, port: Option<u8>) {
-    assert_eq!(rt; set.pop_port(), port);
+    are_equal(rt, set.pop_port(), port);
 }
 
 /// These are the channels of the set, in this order.
@@ -59,9 +64,10 @@ fn ports_come_out_in_order(rt: HostRuntime) {
     gives_port(&rt, &mut set, Some(6));
     gives_port(&rt, &mut set, None);
     put_all(&rt, &mut set, &[(3, 2, true), (3, 5, true)]);
-    assert_eq!(rt;
+    are_equal(
+        &rt,
         (set.pop_port_lowest(), set.pop_port_lowest()),
-        (Some((3, 2)), None)
+        (Some((3, 2)), None),
     );
 }
 
@@ -87,19 +93,19 @@ fn sets_are_held_against_each_other(rt: HostRuntime) {
     put_all(&rt, &mut some, &[(0, 1, true), (1, 0, true), (2, 2, true)]);
     let mut other = ChannelSet::new();
     put_all(&rt, &mut other, &[(1, 0, true)]);
-    assert_eq!(rt; some.row(2, 3), 0b100);
+    are_equal(&rt, some.row(2, 3), 0b100);
     has_channels(&rt, some.intersection(&other), &[(1, 0)]);
     has_channels(&rt, some.difference(&other), &[(0, 1), (2, 2)]);
 }
 
 /// The arbiter was seen to choose this line.
 fn is_line(rt: &impl Abort, chosen: Option<u8>, line: Option<u8>) {
-    assert_eq!(rt; chosen, line);
+    are_equal(rt, chosen, line);
 }
 
 /// The arbiter asks this line first.
 fn points_to(rt: &impl Abort, arbiter: &Arbiter, line: u8) {
-    assert_eq!(rt; arbiter.pointer(), line);
+    are_equal(rt, arbiter.pointer(), line);
 }
 
 #[test]
@@ -151,7 +157,7 @@ pub fn are_granted(rt: &impl Abort, grants: &VcGrants, granted: &[(u8, u8, Optio
     for (port, vc, channel) in granted {
         assert!(rt; *port < 7 && *vc < 8);
         let row = &grants[usize::from(*port)];
-        assert_eq!(rt; row[usize::from(*vc)], *channel, "at {port} {vc}");
+        are_equal(rt, (port, vc, row[usize::from(*vc)]), (port, vc, *channel));
     }
 }
 
@@ -253,7 +259,7 @@ fn finds(rt: &impl Abort, waiting: &VcRequests, out: u8, numbers: &[u8], found: 
 /// The input channel waits for this; none where it waits for nothing.
 fn waits_for(rt: &impl Abort, waiting: &VcRequests, port: u8, vc: u8, request: Option<VcRequest>) {
     assert!(rt; port < 7 && vc < 8);
-    assert_eq!(rt; waiting.get(port, vc), request);
+    are_equal(rt, waiting.get(port, vc), request);
 }
 
 /// The input channel takes back what it asked for.

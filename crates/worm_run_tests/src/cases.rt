@@ -2,6 +2,7 @@
 
 use crate::trial::Trial;
 use arrayvec::ArrayVec;
+use std::fmt::Debug;
 use std::process::Abort;
 use worm_core::{Act, Config, Entry, Name};
 use worm_flit::{Lane, Packet};
@@ -56,4 +57,10 @@ pub fn opposite<R: Abort + AllocGlobal + Copy>(rt: R, radices: &[u8], last: u8) 
         trial.offer_at(0, lane(node, last - node), &words_of(node));
     }
     trial
+}
+
+/// What is found is what is wanted. An `assert_eq!` is proved with all that its function holds, so that one here costs
+/// less than several there.
+pub fn are_equal<T: PartialEq + Debug + Drop>(rt: &impl Abort, found: T, wanted: T) {
+    assert_eq!(rt; found, wanted);
 }

@@ -3,7 +3,7 @@
 ghost use Rattle.std.specs.Prelude.{◌≡◌, vec_len};
 ghost use Rattle.worm_split.specs.Joins.{AreParts};
 
-use crate::cases::lane;
+use crate::cases::{are_equal, lane};
 use crate::parts::{joined, parts_of};
 use crate::trial::Trial;
 use std::process::Abort;
@@ -108,7 +108,7 @@ fn all_came_whole(flits: &[Flit], last: u8) -> bool {
 
 /// The flits are those of the row's 50 packets, and no others.
 fn are_all(rt: &impl Abort, flits: &[Flit], last: u8) {
-    assert_eq!(rt; flits.len(), 150);
+    are_equal(rt, flits.len(), 150);
     assert!(rt; all_came_whole(flits, last));
 }
 
@@ -169,7 +169,7 @@ fn crossing<R: Abort + AllocGlobal + Copy>(rt: R) -> Trial<R> {
 
 /// The flits are those of the 50 packets that cross, each whole, and no others.
 fn have_crossed(rt: &impl Abort, flits: &[Flit]) {
-    assert_eq!(rt; flits.len(), 150);
+    are_equal(rt, flits.len(), 150);
     for number in 0u16..50 {
         assert!(rt; came_whole(flits, lane(0, 1), number));
     }

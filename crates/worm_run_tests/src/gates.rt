@@ -1,6 +1,6 @@
 //! That workers ask their gate and run beside each other, and that a refused entry stops one.
 
-use crate::cases::{lane, pair};
+use crate::cases::{are_equal, lane, pair};
 use crate::trial::Trial;
 use std::process::Abort;
 use std::sync::atomic::{AtomicBool, AtomicU64, Ordering};
@@ -53,7 +53,7 @@ fn two_workers_meet(rt: HostRuntime) {
     };
     let ran = pair(rt, 2, &[17, 18]).run(2, 4, &gate);
     let trial = ran.ended(&[], &[4, 4]);
-    assert_eq!(rt; trial.words_at(1).get(0), Some(&17u32));
+    are_equal(&rt, trial.words_at(1).get(0), Some(&17u32));
     assert!(rt; gate.first.load(Ordering::SeqCst));
     assert!(rt; gate.second.load(Ordering::SeqCst));
 }
@@ -136,8 +136,8 @@ fn each_worker_asks_before_each_turn(rt: HostRuntime) {
     pair(rt, 2, &[17, 18])
         .run(2, 30, &gate)
         .ended(&[], &[30, 30]);
-    assert_eq!(rt; gate.first.load(Ordering::SeqCst), 30);
-    assert_eq!(rt; gate.second.load(Ordering::SeqCst), 30);
+    are_equal(&rt, gate.first.load(Ordering::SeqCst), 30);
+    are_equal(&rt, gate.second.load(Ordering::SeqCst), 30);
     assert!(rt; !gate.amiss.load(Ordering::SeqCst));
 }
 

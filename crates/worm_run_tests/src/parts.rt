@@ -4,7 +4,7 @@ ghost use Rattle.std.specs.Prelude.{◌≡◌, ◌<◌, ◌*◌, ◌++◌, ◌�
 ghost use Rattle.worm_split.specs.Joins.{AreParts};
 ghost use Rattle.worm_split.specs.PartState.{IsSamePart};
 
-use crate::cases::{lane, opposite, words_of};
+use crate::cases::{are_equal, lane, opposite, words_of};
 use crate::trial::Trial;
 use std::process::Abort;
 use std::snapshot::Snapshot;
@@ -39,7 +39,7 @@ fn split_and_joined<R: Abort + AllocGlobal + Copy + Wait>(
 ) -> Trial<R> {
     let (rt, net, script) = trial.into_inner();
     let parts = parts_of(&rt, net, workers);
-    assert_eq!(rt; parts.len(), workers);
+    are_equal(&rt, parts.len(), workers);
     let net = joined(&rt, parts);
     Trial { rt, net, script }
 }
@@ -192,10 +192,10 @@ fn turned_on_two_threads<R: Abort + AllocGlobal + Copy + Threads + Wait + Sync>(
 fn all_lanes_are_cut<R: Abort + AllocGlobal + Copy>(trial: &Trial<R>) {
     for src in 0u8..16 {
         let words = trial.words_to(src, 15 - src);
-        assert_eq!(trial.rt;
-            words.as_slice(),
-            words_of(src).as_slice(),
-            "from node {src}"
+        are_equal(
+            &trial.rt,
+            (src, words.as_slice()),
+            (src, words_of(src).as_slice()),
         );
     }
     trial.has_in_lanes(48);

@@ -1,6 +1,6 @@
 //! Whole runs: everything arrives, whatever the schedule.
 
-use crate::cases::{opposite, pair, words_of};
+use crate::cases::{are_equal, opposite, pair, words_of};
 use crate::trial::Trial;
 use std::process::Abort;
 use worm_run::FreeGate;
@@ -61,6 +61,6 @@ fn no_worker_and_more_than_nodes_are_refused(rt: HostRuntime) {
     for workers in [0usize, 3, 17] {
         trial = trial.refused(workers, 3, &FreeGate);
     }
-    assert_eq!(rt; trial.nodes(), 2);
-    assert_eq!(rt; trial.totals().accepted, 0);
+    are_equal(&rt, trial.nodes(), 2);
+    are_equal(&rt, trial.totals().accepted, 0);
 }

@@ -1,6 +1,6 @@
 //! A gate stops one worker: nothing is lost wherever it does, and the network goes on, on one thread and by workers.
 
-use crate::cases::{opposite, pair, words_of};
+use crate::cases::{are_equal, opposite, pair, words_of};
 use crate::trial::Trial;
 use std::process::Abort;
 use std::sync::Wait;
@@ -70,8 +70,9 @@ fn one_stops<R: Abort + AllocGlobal + Copy + Threads + Wait + Sync>(rt: R, gate:
     let sent = if gate.turn == 0 { 36u64 } else { 48 };
     trial.has_in_lanes(sent);
     let totals = trial.settled().totals();
-    assert_eq!(rt; totals.injected, u128::from(sent), "{gate:?}");
-    assert_eq!(rt; totals.delivered, u128::from(sent), "{gate:?}");
+    let sent = (gate.stop(), u128::from(sent));
+    are_equal(&rt, (gate.stop(), totals.injected), sent);
+    are_equal(&rt, (gate.stop(), totals.delivered), sent);
 }
 
 #[test]
@@ -90,7 +91,11 @@ fn stopped_early<R: Abort + AllocGlobal + Copy + Threads + Wait + Sync>(rt: R) -
     let ran = pair(rt, 1, &[1, 2, 3, 4]).run(2, 10, &gate);
     let trial = ran.ended(&[gate.stop()], &[10, 2]);
     assert!(rt; trial.words_at(1).len() <= 2);
-    assert_eq!(rt; trial.words_to(0, 1).as_slice(), [1, 2, 3, 4].as_slice());
+    are_equal(
+        &rt,
+        trial.words_to(0, 1).as_slice(),
+        [1, 2, 3, 4].as_slice(),
+    );
     trial
 }
 

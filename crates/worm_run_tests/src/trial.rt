@@ -6,7 +6,7 @@
 
 ghost use Rattle.std.specs.Prelude.{◌<◌};
 
-use crate::cases::{config, lane, to_offer};
+use crate::cases::{are_equal, config, lane, to_offer};
 use std::process::Abort;
 use std::sync::Wait;
 use std::thread::Threads;
@@ -40,8 +40,8 @@ impl<R: Abort + AllocGlobal + Copy> Ran<R> {
             stops: stopped,
             ended,
         } = self;
-        assert_eq!(trial.rt; stopped.as_slice(), stops);
-        assert_eq!(trial.rt; ended.as_slice(), turns);
+        are_equal(&trial.rt, stopped.as_slice(), stops);
+        are_equal(&trial.rt, ended.as_slice(), turns);
         trial
     }
 }
@@ -122,12 +122,12 @@ impl<R: Abort + AllocGlobal + Copy> Trial<R> {
 
     /// So many flits were accepted.
     pub fn has_injected(&self, count: u128) {
-        assert_eq!(self.rt; self.totals().injected, count);
+        are_equal(&self.rt, self.totals().injected, count);
     }
 
     /// So many flits were delivered.
     pub fn has_delivered(&self, count: u128) {
-        assert_eq!(self.rt; self.totals().delivered, count);
+        are_equal(&self.rt, self.totals().delivered, count);
     }
 
     /// The number of nodes.
@@ -152,7 +152,11 @@ impl<R: Abort + AllocGlobal + Copy> Trial<R> {
 
     /// The flits that were delivered to the node have these words.
     pub fn has_words(&self, node: u8, words: &[u32]) {
-        assert_eq!(self.rt; self.words_at(node).as_slice(), words, "at node {node}");
+        are_equal(
+            &self.rt,
+            (node, self.words_at(node).as_slice()),
+            (node, words),
+        );
     }
 
     /// What is read of the lane.
@@ -165,7 +169,7 @@ impl<R: Abort + AllocGlobal + Copy> Trial<R> {
 
     /// So many of the lane's flits were delivered.
     pub fn has_come(&self, lane: Lane, count: u64) {
-        assert_eq!(self.rt; self.view(lane).delivered, count);
+        are_equal(&self.rt, self.view(lane).delivered, count);
     }
 
     /// Where the lane's flits under way are.
@@ -180,7 +184,7 @@ impl<R: Abort + AllocGlobal + Copy> Trial<R> {
 
     /// The lane's flits under way are at these places.
     pub fn stands(&self, lane: Lane, places: &[Standing]) {
-        assert_eq!(self.rt; self.standings(lane).as_slice(), places);
+        are_equal(&self.rt, self.standings(lane).as_slice(), places);
     }
 
     /// How many flits the lanes of sixteen nodes have, delivered or under way.
@@ -198,7 +202,7 @@ impl<R: Abort + AllocGlobal + Copy> Trial<R> {
 
     /// The lanes of sixteen nodes have so many flits, delivered or under way.
     pub fn has_in_lanes(&self, count: u64) {
-        assert_eq!(self.rt; self.flits_in_lanes(), count);
+        are_equal(&self.rt, self.flits_in_lanes(), count);
     }
 
     /// The words delivered at `dst`, followed by those under way to it from `src`, which alone sends to it.

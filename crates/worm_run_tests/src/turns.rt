@@ -3,7 +3,7 @@
 ghost use Rattle.std.specs.Prelude.{◌≡◌, ◌<◌, vec_len};
 ghost use Rattle.worm_split.specs.Joins.{AreParts};
 
-use crate::cases::{lane, pair};
+use crate::cases::{are_equal, lane, pair};
 use crate::parts::{joined, parts_of};
 use crate::trial::Trial;
 use std::process::Abort;
@@ -96,7 +96,7 @@ fn the_other_part_takes_what_came(rt: HostRuntime) {
     trial.has_words(1, &[1]);
     trial.has_come(lane(0, 1), 1);
     trial.stands(lane(0, 1), &expected);
-    assert_eq!(rt; credits(trial), (1, Some(0)));
+    are_equal(&rt, credits(trial), (1, Some(0)));
 }
 
 #[test]

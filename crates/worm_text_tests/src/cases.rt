@@ -55,7 +55,7 @@ pub fn traffic_fault(alloc: Global, network: &[u8], text: &[u8]) -> Result<Told,
 
 /// The reader says what is wanted, of a text that is named by this.
 pub fn is_told(rt: &impl Abort, told: Told, wanted: Told, text: &str) {
-    assert_eq!(rt; told, wanted, "{text}");
+    are_equal(rt, (text, told), (text, wanted));
 }
 
 /// The parts of a text, joined.

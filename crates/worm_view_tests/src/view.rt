@@ -8,6 +8,7 @@ mod waits;
 mod whole;
 
 use std::alloc::Global;
+use std::fmt::Debug;
 use std::io;
 use std::io::{ErrorKind, Read, Write};
 use std::process::Abort;
@@ -15,6 +16,12 @@ use worm_cases::{TWO_NODES, Taking};
 use worm_picture::{draw_map, draw_picture};
 use worm_text::{TextFault, Why};
 use worm_view::{Accepted, Form, ViewFault, accept, run_view};
+
+/// What is found is what is wanted. An `assert_eq!` is proved with all that its function holds, so that one here costs
+/// less than several there.
+pub fn are_equal<T: PartialEq + Debug + Drop>(rt: &impl Abort, found: T, wanted: T) {
+    assert_eq!(rt; found, wanted);
+}
 
 /// A packet on its way, and one that waits.
 pub const REPORT: &[u8] = b"wormreport 1\n\
@@ -67,7 +74,7 @@ impl Read for Failing {
 
 /// The bytes are these.
 fn are_bytes(rt: &impl Abort, bytes: &[u8], wanted: &[u8]) {
-    assert_eq!(rt; bytes, wanted);
+    are_equal(rt, bytes, wanted);
 }
 
 /// What the network and the report say.
@@ -109,7 +116,7 @@ fn is_not_drawn<N: Read + Drop, R: Read + Drop>(
 ) {
     let mut out = Vec::new(alloc);
     let ended = run_view(alloc, &mut network, &mut report, form, &mut out);
-    assert_eq!(rt; ended, Err(fault));
+    are_equal(rt, ended, Err(fault));
     assert!(rt; out.is_empty());
 }
 
@@ -122,13 +129,13 @@ fn write_map<W: Write>(alloc: Global, out: &mut W) -> Result<(), ViewFault> {
 
 #[test]
 fn a_map(rt: HostRuntime) {
-    assert_eq!(rt; drawing(&rt, rt.alloc(), true).as_str(), MAP);
+    are_equal(&rt, drawing(&rt, rt.alloc(), true).as_str(), MAP);
 }
 
 #[test]
 fn a_map_of_a_full_buffer(rt: HostRuntime) {
     let map = drawing_of(&rt, rt.alloc(), STOPPED, true);
-    assert_eq!(rt; map.as_str(), MAP_OF_STOPPED);
+    are_equal(&rt, map.as_str(), MAP_OF_STOPPED);
 }
 
 #[test]
@@ -193,7 +200,7 @@ fn is_cut_short(rt: &impl Abort, alloc: Global, map: &str) {
             more: 1,
         };
         let ended = write_map(alloc, &mut out);
-        assert_eq!(rt; ended, Err(ViewFault::Write));
+        are_equal(rt, ended, Err(ViewFault::Write));
         are_bytes(rt, out.taken.as_slice(), &map.as_bytes()[..room]);
     }
 }
@@ -201,12 +208,12 @@ fn is_cut_short(rt: &impl Abort, alloc: Global, map: &str) {
 #[test]
 fn writers_that_fail_have_taken_what_fits(rt: HostRuntime) {
     is_cut_short(&rt, rt.alloc(), MAP);
-    assert_eq!(rt; ViewFault::Write.status(), 8);
+    are_equal(&rt, ViewFault::Write.status(), 8);
 }
 
 #[test]
 fn a_writer_that_is_full(rt: HostRuntime) {
     let mut room = [0u8; 20];
     let ended = write_map(rt.alloc(), &mut room.as_mut_slice());
-    assert_eq!(rt; ended, Err(ViewFault::Write));
+    are_equal(&rt, ended, Err(ViewFault::Write));
 }

@@ -111,7 +111,7 @@ fn a_refused_entry_ends_the_turn(rt: HostRuntime) {
     trial.takes_turn(0);
     trial.has_accepted(0);
     let refused = Err(StepFault::Refused(OfferFault::NoSuchNode));
-    assert_eq!(rt; trial.turn(1), refused);
+    are_equal(&rt, trial.turn(1), refused);
     trial.has_accepted(1);
     trial.stands(lane(0, 1, 0), &[(0, 0, Place::Source)]);
 }

@@ -2,6 +2,7 @@
 
 ghost use Rattle.std.specs.Prelude.{◌≡◌, ◌<◌};
 
+use crate::cases::are_equal;
 use crate::links::pair;
 use std::alloc::Global;
 use std::process::Abort;
@@ -35,7 +36,7 @@ fn is_full<R: Abort + Wait>(rt: &R, tx: &mut CreditTx, channel: u8)
     requires { channel < tx.old.link.channels }
     ensures { tx.new.link.channels ≡ tx.old.link.channels }
 {
-    assert_eq!(rt; tx.push(rt, channel), Err(channel));
+    are_equal(rt, tx.push(rt, channel), Err(channel));
 }
 
 /// This credit comes next; none where none stands in the line.
@@ -43,14 +44,14 @@ fn comes(rt: &impl Abort, rx: &mut CreditRx, channel: Option<u8>)
     ensures { rx.new.queue ≡ rx.old.queue }
 {
     match rx.pop() {
-        Some(found) => assert_eq!(rt; Some(found), channel),
-        None => assert_eq!(rt; None, channel),
+        Some(found) => are_equal(rt, Some(found), channel),
+        None => are_equal(rt, None, channel),
     }
 }
 
 /// This credit is left; none where all was taken.
 fn is_left<R: Abort + Wait>(rt: &R, ends: &mut CreditEnds, channel: Option<u8>) {
-    assert_eq!(rt; ends.pop_rest(rt), channel);
+    are_equal(rt, ends.pop_rest(rt), channel);
 }
 
 #[test]
@@ -137,7 +138,7 @@ fn take_all(rt: &impl Abort, mut rx: CreditRx, credits: u16) -> u16 {
         }
         match rx.pop() {
             Some(channel) => {
-                assert_eq!(rt; u16::from(channel), taken % 3 / 2);
+                are_equal(rt, u16::from(channel), taken % 3 / 2);
                 taken += 1;
             }
             None => thread::yield_now(),
@@ -153,7 +154,7 @@ fn credits_between_two_threads(rt: HostRuntime) {
     let pusher = started.expect(&rt, "a thread");
     let taken = take_all(&rt, rx, 1000);
     assert!(rt; pusher.join(&rt));
-    assert_eq!(rt; taken, 1000);
+    are_equal(&rt, taken, 1000);
 }
 
 #[test]

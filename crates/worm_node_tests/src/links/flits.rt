@@ -6,6 +6,7 @@ ghost use Rattle.worm_flit.specs.Worms.{MayFollow};
 ghost use Rattle.worm_links.specs.Links.{AreWorms, MayCross};
 ghost use Rattle.worm_links.specs.Trial.{pair_link, trial_flit, last_on, IsReady, IsOpen};
 
+use crate::cases::are_equal;
 use crate::links::pair;
 use std::alloc::Global;
 use std::marker::Brand;
@@ -45,14 +46,14 @@ fn comes(rt: &impl Abort, rx: &mut FlitRx, flit: Option<Flit>)
     ensures { rx.new.queue ≡ rx.old.queue }
 {
     match rx.pop() {
-        Some(found) => assert_eq!(rt; Some(found), flit),
-        None => assert_eq!(rt; None, flit),
+        Some(found) => are_equal(rt, Some(found), flit),
+        None => are_equal(rt, None, flit),
     }
 }
 
 /// This flit is left; none where all was taken.
 fn is_left<R: Abort + Wait>(rt: &R, ends: &mut Ends, flit: Option<Flit>) {
-    assert_eq!(rt; ends.pop_rest(rt), flit);
+    are_equal(rt, ends.pop_rest(rt), flit);
 }
 
 #[test]
@@ -60,8 +61,8 @@ fn one_channel_of_depth_one(rt: HostRuntime) {
     let (mut tx, mut rx) = ends_of(&rt, rt.alloc(), 1, 1);
     let first = flit(0, 0, Kind::Single, 0);
     let second = flit(1, 0, Kind::Single, 0);
-    assert_eq!(rt; push_single(&rt, &mut tx, 1, 0, 0), Ok(()));
-    assert_eq!(rt; push_single(&rt, &mut tx, 1, 1, 0), Err(second));
+    are_equal(&rt, push_single(&rt, &mut tx, 1, 0, 0), Ok(()));
+    are_equal(&rt, push_single(&rt, &mut tx, 1, 1, 0), Err(second));
     comes(&rt, &mut rx, Some(first));
     comes(&rt, &mut rx, None);
 }
@@ -70,10 +71,10 @@ fn one_channel_of_depth_one(rt: HostRuntime) {
 fn a_full_link_takes_a_flit_once_one_was_popped(rt: HostRuntime) {
     let (mut tx, mut rx) = ends_of(&rt, rt.alloc(), 1, 1);
     let second = flit(1, 0, Kind::Single, 0);
-    assert_eq!(rt; push_single(&rt, &mut tx, 1, 0, 0), Ok(()));
-    assert_eq!(rt; push_single(&rt, &mut tx, 1, 1, 0), Err(second));
+    are_equal(&rt, push_single(&rt, &mut tx, 1, 0, 0), Ok(()));
+    are_equal(&rt, push_single(&rt, &mut tx, 1, 1, 0), Err(second));
     comes(&rt, &mut rx, Some(flit(0, 0, Kind::Single, 0)));
-    assert_eq!(rt; push_single(&rt, &mut tx, 1, 1, 0), Ok(()));
+    are_equal(&rt, push_single(&rt, &mut tx, 1, 1, 0), Ok(()));
     comes(&rt, &mut rx, Some(second));
     comes(&rt, &mut rx, None);
 }
@@ -271,7 +272,7 @@ fn on_one(rt: &impl Abort, alloc: Global, flits: &[Flit], vc: u8) -> Vec<Flit> {
 fn are_all(rt: &impl Abort, alloc: Global, taken: &[Flit], packets: u16, vc: u8) {
     let wanted = sent_on(rt, alloc, packets, vc);
     let found = on_one(rt, alloc, taken, vc);
-    assert_eq!(rt; found.as_slice(), wanted.as_slice());
+    are_equal(rt, found.as_slice(), wanted.as_slice());
 }
 
 /// The only flits of so many packets come, on eight channels in turn.
@@ -286,7 +287,7 @@ fn come_all(rt: &impl Abort, rx: &mut FlitRx, packets: u16) {
 #[test]
 fn eight_channels_of_depth_seventeen(rt: HostRuntime) {
     let (mut tx, mut rx) = ends_of(&rt, rt.alloc(), 8, 17);
-    assert_eq!(rt; fill(&rt, &mut tx, 137), 136);
+    are_equal(&rt, fill(&rt, &mut tx, 137), 136);
     come_all(&rt, &mut rx, 136);
     comes(&rt, &mut rx, None);
 }
@@ -299,7 +300,7 @@ fn two_threads_lose_nothing(rt: HostRuntime) {
     let pusher = started.expect(&rt, "a thread");
     let taken = take_all(&rt, alloc, rx, 1999);
     assert!(rt; pusher.join(&rt));
-    assert_eq!(rt; taken.len(), 1999);
+    are_equal(&rt, taken.len(), 1999);
     are_all(&rt, alloc, taken.as_slice(), 1000, 0);
     are_all(&rt, alloc, taken.as_slice(), 1000, 1);
 }

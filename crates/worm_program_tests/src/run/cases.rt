@@ -76,7 +76,7 @@ pub fn answers(
     answer: Result<(), ProgramFault>,
     wanted: Result<(), ProgramFault>,
 ) {
-    assert_eq!(rt; answer, wanted);
+    are_equal(rt, answer, wanted);
 }
 
 /// The run answered this, and wrote this report.
@@ -102,7 +102,7 @@ pub fn reports(
 
 /// The fault has this status.
 pub fn has_status(rt: &impl Abort, fault: ProgramFault, status: u8) {
-    assert_eq!(rt; fault.status(), status);
+    are_equal(rt, fault.status(), status);
 }
 
 /// The line of a fault on the standard error.

@@ -1,6 +1,6 @@
 //! Readers that fail in mid-stream or give little at a time, and want of memory in a turn.
 
-use crate::run::cases::{Ran, gives, is_fault, run_reader, run_readers};
+use crate::run::cases::{Ran, are_equal, gives, is_fault, run_reader, run_readers};
 use std::alloc::Global;
 use std::io;
 use std::io::Read;
@@ -65,7 +65,7 @@ fn run_sipped(alloc: Global, turns: u64, network_fails: usize, traffic_fails: us
 fn network_fails_at(rt: &impl Abort, alloc: Global, fails_at: usize) -> Result<(), Fail> {
     let run = run_sipped(alloc, 1, fails_at, 0);
     assert!(rt; run.ran.report.is_empty());
-    assert_eq!(rt; (run.network_calls, run.traffic_calls), (fails_at, 0));
+    are_equal(rt, (run.network_calls, run.traffic_calls), (fails_at, 0));
     is_fault(rt, alloc, run.ran.answer, 5, "wormrun: cannot read network")
 }
 
@@ -81,7 +81,7 @@ fn a_network_that_fails_in_mid_stream(rt: HostRuntime) -> Result<(), Fail> {
 fn traffic_fails_at(rt: &impl Abort, alloc: Global, fails_at: usize) -> Result<(), Fail> {
     let run = run_sipped(alloc, 1, 0, fails_at);
     assert!(rt; run.ran.report.is_empty());
-    assert_eq!(rt; run.traffic_calls, fails_at);
+    are_equal(rt, run.traffic_calls, fails_at);
     is_fault(rt, alloc, run.ran.answer, 5, "wormrun: cannot read traffic")
 }
 
@@ -110,7 +110,7 @@ fn input_fails_at(rt: &impl Abort, alloc: Global, fails_at: usize) -> Result<(),
     let mut input = Sipped::new(TWO_NODES_AND_WORDS, fails_at);
     let ran = run_reader(alloc, &mut input);
     assert!(rt; ran.report.is_empty());
-    assert_eq!(rt; input.calls, fails_at);
+    are_equal(rt, input.calls, fails_at);
     is_fault(rt, alloc, ran.answer, 5, "wormrun: cannot read network")
 }
 

@@ -1,6 +1,6 @@
 //! Texts of as many bytes as are read, and of one byte more.
 
-use crate::run::cases::{Ran, is_refusal, run_reader, run_readers};
+use crate::run::cases::{Ran, are_equal, is_refusal, run_reader, run_readers};
 use std::alloc::Global;
 use std::io;
 use std::io::Read;
@@ -36,7 +36,7 @@ fn length_read(alloc: Global, left: usize) -> Result<usize, ReadFault> {
 
 /// A reader that has so many bytes is read with this end.
 fn reads(rt: &impl Abort, alloc: Global, left: usize, wanted: Result<usize, ReadFault>) {
-    assert_eq!(rt; length_read(alloc, left), wanted);
+    are_equal(rt, length_read(alloc, left), wanted);
 }
 
 #[test]

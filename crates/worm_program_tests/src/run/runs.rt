@@ -1,6 +1,6 @@
 //! Runs of two texts on this thread, texts that are refused, and where two texts in one input are cut.
 
-use crate::run::cases::{SHALLOW, gives, has_status, is_refused, reports, run_reader};
+use crate::run::cases::{SHALLOW, are_equal, gives, has_status, is_refused, reports, run_reader};
 use std::io;
 use std::io::Read;
 use std::test::Fail;
@@ -192,6 +192,6 @@ const JOINED: &[(&[u8], usize)] = &[
 #[test]
 fn joined_texts_are_cut(rt: HostRuntime) {
     for (text, cut) in JOINED {
-        assert_eq!(rt; cut_of(text), *cut);
+        are_equal(&rt, cut_of(text), *cut);
     }
 }

@@ -1,5 +1,6 @@
 //! The whole program on a runtime of the tests' own: what it opens, prints and says, and its status.
 
+use crate::run::cases::are_equal;
 use std::alloc::Global;
 use std::cell::RefCell;
 use std::process::{Abort, ExitCode};
@@ -28,7 +29,7 @@ const A_HUNDRED_TURNS: &str = "wormreport 1\n\
 
 /// The program on the desk ends with this status.
 fn ends_with(rt: &(impl Abort + Threads + Wait + Sync), desk: &Desk, status: u8) {
-    assert_eq!(rt; run(desk, rt), ExitCode::from(status));
+    are_equal(rt, run(desk, rt), ExitCode::from(status));
 }
 
 /// The program on these words, and on both texts as its standard input, ends with this status, and opens, prints and
@@ -52,7 +53,7 @@ fn ends(
 /// What was kept is this text.
 fn kept(rt: &impl Abort, kept: &RefCell<Vec<u8>>, wanted: &str) {
     match kept.try_borrow() {
-        Ok(kept) => assert_eq!(rt; kept.as_slice(), wanted.as_bytes()),
+        Ok(kept) => are_equal(rt, kept.as_slice(), wanted.as_bytes()),
         Err(_) => panic!(rt; "in use"),
     }
 }
@@ -211,7 +212,7 @@ fn an_output_that_is_full(rt: HostRuntime) -> Result<(), Fail> {
         desk.room.set(20);
         ends_with(&rt, &desk, 8);
         kept(&rt, &desk.said, "wormrun: report not written\n");
-        assert_eq!(rt; count_kept(&rt, &desk.printed), 20);
+        are_equal(&rt, count_kept(&rt, &desk.printed), 20);
     }
     Ok(())
 }

@@ -1,3 +1,4 @@
+use crate::run::cases::are_equal;
 use std::alloc::Global;
 use std::process::Abort;
 use worm_program::{Options, Words, WordsFault, read_words};
@@ -26,7 +27,7 @@ fn refused<'a>(rt: &impl Abort, alloc: Global, words: &'a [&'a str]) -> WordsFau
 
 fn refuses<'a>(rt: &impl Abort, alloc: Global, words: &'a [&'a str]) {
     match refused(rt, alloc, words) {
-        WordsFault::Words(error) => assert_eq!(rt; error.exit_code(), 2),
+        WordsFault::Words(error) => are_equal(rt, error.exit_code(), 2),
         fault => panic!(rt; "{fault:?}"),
     }
 }
@@ -38,7 +39,7 @@ fn are_options(rt: &impl Abort, options: Options, turns: u64, workers: usize, dr
         workers,
         drain,
     };
-    assert_eq!(rt; options, wanted);
+    are_equal(rt, options, wanted);
 }
 
 const ONE_TURN: &[&str] = &["wormrun", "n", "t", "--turns", "1"];

@@ -3,7 +3,7 @@
 ghost use Rattle.std.specs.Prelude.{IfSome};
 ghost use Rattle.worm_words.specs.Ranges.{InRange};
 
-use crate::run::cases::{Ran, answers, gives, is_fault, is_told};
+use crate::run::cases::{Ran, answers, are_equal, gives, is_fault, is_told};
 use std::alloc::Global;
 use std::io::Write;
 use std::process::Abort;
@@ -249,7 +249,7 @@ fn asks<R: Threads + Wait + Sync + Abort>(rt: &R, alloc: Global, run: (usize, u6
     let texts = (TWO_NODES, TWO_WORDS);
     let ran = run_both(rt, alloc, texts, (turns, workers, 10), &gate);
     answers(rt, ran.answer, Ok(()));
-    assert_eq!(rt; gate.asked.load(Ordering::SeqCst), wanted);
+    are_equal(rt, gate.asked.load(Ordering::SeqCst), wanted);
 }
 
 #[test]

@@ -157,7 +157,7 @@ impl<R: Abort + AllocGlobal + Copy> Ground<R> {
 
     /// The step is done.
     fn does(&mut self, step: &Step) {
-        assert_eq!(self.rt; self.net.step(step), Ok(Moved::Done));
+        are_equal(&self.rt, self.net.step(step), Ok(Moved::Done));
     }
 
     /// Does the steps, each of which can be done.

@@ -2,7 +2,7 @@
 
 ghost use Rattle.std.specs.Prelude.{◌≡◌, ◌<◌, ◌≤◌};
 
-use crate::cases::mesh_of;
+use crate::cases::{are_equal, mesh_of};
 use crate::swalloc::are_chosen;
 use crate::vcalloc::{are_granted, has_channels};
 use std::marker::Model;
@@ -83,7 +83,7 @@ impl<R: Abort + AllocGlobal + Copy> Trial<R> {
         assert!(self.rt; port < 3 && flit.vc < self.width);
         match self.router.accept(port, flit) {
             Ok(()) => panic!(self.rt; "a full buffer took a flit"),
-            Err(back) => assert_eq!(self.rt; back, flit),
+            Err(back) => are_equal(&self.rt, back, flit),
         }
     }
 
@@ -114,7 +114,7 @@ impl<R: Abort + AllocGlobal + Copy> Trial<R> {
     /// The channel's front may leave by this port, as this flit.
     pub fn is_ready(&self, port: u8, vc: u8, out: u8, flit: Flit) {
         assert!(self.rt; port < 3 && vc < self.width);
-        assert_eq!(self.rt; self.router.ready(port, vc), Some((out, flit)));
+        are_equal(&self.rt, self.router.ready(port, vc), Some((out, flit)));
     }
 
     /// The channel's front leaves.
@@ -127,7 +127,7 @@ impl<R: Abort + AllocGlobal + Copy> Trial<R> {
     /// The flit that left the channel last, as it left; none before any has.
     pub fn left_last(&self, port: u8, vc: u8, flit: Option<Flit>) {
         assert!(self.rt; port < 3 && vc < self.width);
-        assert_eq!(self.rt; self.router.last_out(port, vc), flit);
+        are_equal(&self.rt, self.router.last_out(port, vc), flit);
     }
 
     /// A credit that the channel owes goes out.
@@ -144,48 +144,52 @@ impl<R: Abort + AllocGlobal + Copy> Trial<R> {
             Ok(()) => Ok(()),
             Err(TooMany) => Err(TooMany),
         };
-        assert_eq!(self.rt; given, answer);
+        are_equal(&self.rt, given, answer);
     }
 
     /// The input channel's record is this.
     pub fn has_input(&self, port: u8, vc: u8, record: InRecord) {
         assert!(self.rt; port < 3 && vc < self.width);
-        assert_eq!(self.rt; self.router.in_record(port, vc), record);
+        are_equal(&self.rt, self.router.in_record(port, vc), record);
     }
 
     /// The output channel is held by this input channel.
     pub fn is_held(&self, port: u8, vc: u8, holder: (u8, u8)) {
         assert!(self.rt; port < 3 && vc < self.width);
-        assert_eq!(self.rt; self.router.out_record(port, vc).holder, Some(holder));
+        are_equal(
+            &self.rt,
+            self.router.out_record(port, vc).holder,
+            Some(holder),
+        );
     }
 
     /// The flit at this place of the channel's buffer; none where no flit is there.
     pub fn has_flit(&self, port: u8, vc: u8, place: usize, flit: Option<Flit>) {
         assert!(self.rt; port < 3 && vc < self.width);
-        assert_eq!(self.rt; self.router.buffer_at(port, vc, place), flit);
+        are_equal(&self.rt, self.router.buffer_at(port, vc, place), flit);
     }
 
     /// Whether the channel's buffer has room for a flit.
     pub fn has_room(&self, port: u8, vc: u8, room: bool) {
         assert!(self.rt; port < 3 && vc < self.width);
-        assert_eq!(self.rt; self.router.has_room(port, vc), room);
+        are_equal(&self.rt, self.router.has_room(port, vc), room);
     }
 
     /// The channel owes so many credits.
     pub fn owes(&self, port: u8, vc: u8, count: u8) {
         assert!(self.rt; port < 3 && vc < self.width);
-        assert_eq!(self.rt; self.router.owed_count(port, vc), count);
+        are_equal(&self.rt, self.router.owed_count(port, vc), count);
     }
 
     /// The lowest channel of the port that owes a credit; none where none does.
     pub fn owes_first(&self, port: u8, vc: Option<u8>) {
         assert!(self.rt; port < 3);
-        assert_eq!(self.rt; self.router.owed(port), vc);
+        are_equal(&self.rt, self.router.owed(port), vc);
     }
 
     /// Whether the router says that a turn would leave it as it is.
     pub fn is_at_rest(&self, rests: bool) {
-        assert_eq!(self.rt; self.router.is_at_rest(), rests);
+        are_equal(&self.rt, self.router.is_at_rest(), rests);
     }
 
     /// These input channels have a flit, and no others.

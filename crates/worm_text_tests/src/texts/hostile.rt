@@ -1,7 +1,7 @@
 //! Each byte of a text replaced by each other one: what is still accepted is the text of what was read, written here
 //! from the rules.
 
-use crate::cases::{network, traffic};
+use crate::cases::{are_equal, network, traffic};
 use std::alloc::Global;
 use std::fmt::Display;
 use std::process::Abort;
@@ -139,7 +139,7 @@ fn is_accepted(rt: &impl Abort, alloc: Global, kind: Kind, text: &[u8]) -> Resul
     let Some(back) = read_back(alloc, kind, text)? else {
         return Ok(false);
     };
-    assert_eq!(rt; back.as_bytes(), text);
+    are_equal(rt, back.as_bytes(), text);
     Ok(true)
 }
 
@@ -176,7 +176,7 @@ fn accepted(rt: &impl Abort, alloc: Global, kind: Kind, text: &[u8]) -> Result<u
 #[test]
 fn a_byte_of_a_network_is_replaced(rt: HostRuntime) -> Result<(), Fail> {
     let accepted = accepted(&rt, rt.alloc(), Kind::FirstFormat, TWO_NODES)?;
-    assert_eq!(rt; accepted, 48 + 147);
+    are_equal(&rt, accepted, 48 + 147);
     Ok(())
 }
 
@@ -184,7 +184,7 @@ fn a_byte_of_a_network_is_replaced(rt: HostRuntime) -> Result<(), Fail> {
 #[test]
 fn a_byte_of_a_network_of_two_radices_is_replaced(rt: HostRuntime) -> Result<(), Fail> {
     let accepted = accepted(&rt, rt.alloc(), Kind::SecondFormat, THREE_BY_TWO)?;
-    assert_eq!(rt; accepted, 61 + 159);
+    are_equal(&rt, accepted, 61 + 159);
     Ok(())
 }
 
@@ -192,7 +192,7 @@ fn a_byte_of_a_network_of_two_radices_is_replaced(rt: HostRuntime) -> Result<(),
 #[test]
 fn a_byte_of_traffic_is_replaced(rt: HostRuntime) -> Result<(), Fail> {
     let accepted = accepted(&rt, rt.alloc(), Kind::Traffic, TWO_WORDS)?;
-    assert_eq!(rt; accepted, 40 + 55);
+    are_equal(&rt, accepted, 40 + 55);
     Ok(())
 }
 
@@ -201,6 +201,6 @@ fn a_byte_of_traffic_is_replaced(rt: HostRuntime) -> Result<(), Fail> {
 fn a_byte_of_traffic_of_two_radices_is_replaced(rt: HostRuntime) -> Result<(), Fail> {
     let text = b"wormtraffic 1\nsend 0 0 5 data 9\nend\n";
     let accepted = accepted(&rt, rt.alloc(), Kind::TrafficOfSix, text)?;
-    assert_eq!(rt; accepted, 36 + 28);
+    are_equal(&rt, accepted, 36 + 28);
     Ok(())
 }

@@ -11,7 +11,7 @@ use worm_text::{TextFault, Why};
 /// The text has this fault.
 fn is_refused(rt: &impl Abort, text: &[u8], line: u32, why: Why) {
     let fault = network(text).err();
-    assert_eq!(rt; fault, Some(TextFault { line, why }), "at {text:?}");
+    are_equal(rt, (text, fault), (text, Some(TextFault { line, why })));
 }
 
 /// Each text has its fault.

@@ -1,6 +1,6 @@
 //! What both readers say of texts with bytes that no field has: in each field, and at each end of a line.
 
-use crate::cases::{Told, is_told, joined, network_fault, traffic_fault};
+use crate::cases::{Told, are_equal, is_told, joined, network_fault, traffic_fault};
 use std::alloc::Global;
 use std::process::Abort;
 use std::test::Fail;
@@ -71,7 +71,7 @@ fn borders(alloc: Global, text: &[u8]) -> Result<Vec<Border>, Fail> {
 
 /// The reader says of a text with the byte at the place what is wanted.
 fn is_told_at(rt: &impl Abort, told: Told, wanted: Told, byte: u8, at: usize) {
-    assert_eq!(rt; told, wanted, "{byte} at {at}");
+    are_equal(rt, (byte, at, told), (byte, at, wanted));
 }
 
 /// What the reader says of a network's text with the byte there.

@@ -26,7 +26,7 @@ fn is_refused(
     why: Why,
 ) -> Result<(), Fail> {
     let told = counted(alloc, TWO_NODES, text)?;
-    assert_eq!(rt; told, Err(TextFault { line, why }));
+    are_equal(rt, told, Err(TextFault { line, why }));
     Ok(())
 }
 
@@ -40,7 +40,7 @@ fn are_refused(rt: &impl Abort, alloc: Global, faulty: &[(&str, u32, Why)]) -> R
 
 /// The text has so many entries.
 fn is_accepted(rt: &impl Abort, alloc: Global, text: &[u8], count: usize) -> Result<(), Fail> {
-    assert_eq!(rt; counted(alloc, TWO_NODES, text)?, Ok(count));
+    are_equal(rt, counted(alloc, TWO_NODES, text)?, Ok(count));
     Ok(())
 }
 
@@ -181,7 +181,7 @@ fn the_first_of_several_faults(rt: HostRuntime) -> Result<(), Fail> {
 fn is_not_closed(rt: &impl Abort, alloc: Global, text: &[u8]) -> Result<(), Fail> {
     let why = Why::ManyChannels;
     let told = counted(alloc, TWO_CHANNELS, text)?;
-    assert_eq!(rt; told, Err(TextFault { line: 2, why }));
+    are_equal(rt, told, Err(TextFault { line: 2, why }));
     Ok(())
 }
 

@@ -1,5 +1,6 @@
 //! Who waits for whom, in reports of which each wait was worked out by hand.
 
+use crate::view::are_equal;
 use std::alloc::Global;
 use std::process::Abort;
 use worm_view::{Form, run_view};
@@ -87,8 +88,8 @@ const NOBODY_WAITS: &[u8] = b"Fronts that cannot go on:\n\nChains, the longest f
 fn are_waits(rt: &impl Abort, alloc: Global, mut network: &[u8], mut report: &[u8], wanted: &[u8]) {
     let mut out = Vec::new(alloc);
     let ended = run_view(alloc, &mut network, &mut report, Form::Waits, &mut out);
-    assert_eq!(rt; ended, Ok(()));
-    assert_eq!(rt; out.as_slice(), wanted);
+    are_equal(rt, ended, Ok(()));
+    are_equal(rt, out.as_slice(), wanted);
 }
 
 #[test]

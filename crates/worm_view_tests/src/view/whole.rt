@@ -1,6 +1,6 @@
 //! The whole program on a runtime of the tests' own: what it opens, prints and says, and its status.
 
-use crate::view::{MAP, REPORT, drawing};
+use crate::view::{MAP, REPORT, are_equal, drawing};
 use std::alloc::Global;
 use std::cell::RefCell;
 use std::process::{Abort, ExitCode};
@@ -17,7 +17,7 @@ const A_MAP: &[&[u8]] = &[b"wormview", b"n", b"--text"];
 /// What was kept are these bytes.
 fn are_kept(rt: &impl Abort, kept: &RefCell<Vec<u8>>, wanted: &[u8]) {
     match kept.try_borrow() {
-        Ok(kept) => assert_eq!(rt; kept.as_slice(), wanted),
+        Ok(kept) => are_equal(rt, kept.as_slice(), wanted),
         Err(_) => panic!(rt; "in use"),
     }
 }
@@ -42,7 +42,7 @@ fn desk_with(alloc: Global, words: &'static [&'static [u8]], report: &'static [u
 
 /// The program on the desk ends with this status.
 fn ends_with(rt: &impl Abort, desk: &Desk, status: u8) {
-    assert_eq!(rt; run(desk), ExitCode::from(status));
+    are_equal(rt, run(desk), ExitCode::from(status));
 }
 
 /// The program on the desk ends with this status, and opens, prints and says this.
