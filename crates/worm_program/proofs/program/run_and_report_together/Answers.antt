@@ -1,4 +1,4 @@
-use Rattle.std.proofs.Common.{◌≤◌, ap, inl, inr, rules, tests}
+use Rattle.std.proofs.Common.{Bool, true, nat_le, ℕ, ◌≡◌, ◌≤◌, ap, inl, inr, arith}
 use Rattle.std.proofs.KnownBytes.{Keeps-refl}
 use Rattle.std.proofs.lemmas.Result.{err_from_is_err_and}
 use Rattle.worm_mesh.specs.Address.{node_count}
@@ -10,6 +10,10 @@ use Rattle.worm_program.specs.Together.{plan_of, summary_with}
 use Rattle.worm_program.proofs.ByWorkers.{not_accepted, together_so}
 use Rattle.worm_alone.proofs.Scripts.{accepted_script}
 use Rattle.worm_program.proofs.program.run_and_report_together.Goals as goal
+
+-- what the test for the nodes tells
+at_most : (is_so : Bool) (n m : ℕ) → is_so ≡ nat_le n m → is_so ≡ true → n ≤ m
+at_most is_so n m e p = grind arith
 
 -- where the texts are not accepted
 pub returns-in_err-accepted : goal.returns-in_err-accepted
@@ -25,7 +29,9 @@ pub returns-in_default : goal.returns-in_default
 returns-in_default g c =
     let config = view c.in_ok-accepted.accepted.config in
     let said = c.in_ok-accepted.ensures in
-    let nodes : c.args.options.now.workers ≤ node_count config.radices = search (rules, tests) in
+    let nodes : c.args.options.now.workers ≤ node_count config.radices =
+        at_most c.has_nodes.result c.args.options.now.workers (node_count config.radices) c.has_nodes.ensures
+        c.if-not-has_nodes.false in
     inl (
       inr record {
         config = config;
