@@ -117,7 +117,8 @@ here c =
     input_read (was c) c.args.self.now c.args.port c.args.vc c.line-i.result c.index_mut-channel.result.now
     c.self.view_is c.index_mut-channel.ensures.value c.line-i.ensures.value c.line-i.ensures.in_inputs
 
-there : (c : After-index_mut-output) → c.index_mut-output.result.now ≡ output_at c.args.self.now c.args.out c.args.flit.vc
+there : (c : After-index_mut-output)
+    → c.index_mut-output.result.now ≡ output_at c.args.self.now c.args.out c.args.flit.vc
 there c =
     output_read (was c) c.args.self.now c.args.out c.args.flit.vc c.line-o.result c.index_mut-output.result.now
     c.self.view_is c.index_mut-output.ensures.value c.line-o.ensures.value c.line-o.ensures.in_outputs
@@ -139,5 +140,6 @@ returns-else-is_closing c =
     left_is (was at) c.args.self.now c.args.port c.args.vc c.line-i.result c.args.out c.line-o.result c.args.flit
     c.index_mut-channel.result.now c.let_out.new.self c.index_mut-output.result.now c.spend.new.output
     c.credit_of-spent.result c.owed_for-more_owed.result false c.self.view_is c.requires.ready
-    (sym c.is_closing.ensures ∙ c.if-is_closing.false) c.line-i.ensures.value c.line-o.ensures.value (here at) (there at)
+    (sym c.is_closing.ensures ∙ c.if-is_closing.false) c.line-i.ensures.value c.line-o.ensures.value (here at)
+    (there at)
     c.credit_of-spent.ensures.value c.owed_for-more_owed.ensures.value c.let_out.ensures c.spend.ensures
