@@ -4,6 +4,7 @@ pub mod ArrivalsFound
 pub mod Apart
 pub mod ByNumber
 pub mod Ways
+pub mod FrontRead
 pub mod Seen
 pub mod ListsWritten
 pub mod TraysWritten
