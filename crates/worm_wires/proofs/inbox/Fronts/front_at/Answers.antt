@@ -1,5 +1,6 @@
-use Rattle.std.proofs.Common.{◌≡◌, ◌<◌, ◌∙◌, length, get_or, Some, ap, rules, sym}
+use Rattle.std.proofs.Common.{◌≡◌, ◌<◌, length, get_or, true, Some, ap, rules}
 use Rattle.std.specs.Prelude.{is_some}
+use Rattle.worm_flit.specs.SmallSet.{has}
 use Rattle.worm_wires.specs.Inbox.{front_of, tray_of}
 use Rattle.worm_wires.proofs.FrontRead.{read}
 use Rattle.worm_wires.proofs.inbox.Fronts.front_at.Goals as goal
@@ -10,7 +11,7 @@ read_at : (g : _) (c : goal.After-index-self-from g)
     ≡ front_of (tray_of c.args.here.now c.args.self.now) c.args.port
 read_at g c =
     let there : c.args.port < length c.args.self.now.front = search rules in
-    let some = sym c.contains.ensures ∙ c.if-not-contains.false in
+    let some : has c.args.here.now c.args.port ≡ true = cc in
     rw (c.from.ensures, some) (read c.args.self.now.front c.args.port _ there)
 
 pub returns-clause-value : goal.returns-clause-value
