@@ -1,5 +1,5 @@
 -- What a source makes of a packet or a mark, by what stands in its lists.
-use Rattle.std.proofs.Common.{◌≡◌, ◌<◌, ◌+◌, ◌∙◌, ℕ, Bool, true, false, List, None, Err, Ok, OnErr, OnOk}
+use Rattle.std.proofs.Common.{◌≡◌, ◌<◌, ◌+◌, ◌∙◌, ℕ, Bool, true, List, None, Err, Ok, OnErr}
 use Rattle.std.proofs.Common.{ap, arith, get_or, inl, inr, length, refl, slice_index_or, slice_set, sym}
 use Rattle.std.specs.Prelude.{Option, Result}
 use Rattle.std.specs.Result.{is_err}

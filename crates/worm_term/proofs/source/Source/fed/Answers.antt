@@ -1,4 +1,4 @@
-use Rattle.std.proofs.Common.{◌≡◌, ◌<◌, ◌∙◌, length, slice_set, ap, subst, sym}
+use Rattle.std.proofs.Common.{◌≡◌, ◌<◌, length, slice_set, subst, sym}
 use Rattle.worm_term.specs.Source.{IsSource, SourceState, after_fed, source_state}
 use Rattle.worm_term.proofs.Accepted.{fed_sound, fed_is, queue_is}
 use Rattle.worm_term.proofs.Unfed.{put_unfed}
