@@ -1,10 +1,9 @@
 -- What a step leaves of a sound network, whatever it was answered: each lane of a class with one channel has made its
 -- move, or none, and nothing follows a close mark.
-use Rattle.std.proofs.Common.{◌≡◌, ℕ, List, [], ◌∷◌, Ok, Err, ap, sym, subst}
+use Rattle.std.proofs.Common.{◌≡◌, Ok, Err, sym, subst}
 use Rattle.std.specs.Prelude.{Result}
 use Rattle.worm_theory.specs.Steps.{Step}
 use Rattle.worm_flit.specs.declared.Flit.{Flit}
-use Rattle.worm_flit.specs.declared.Lane.{Lane}
 use Rattle.worm_route.specs.LaneMachine.{Machine}
 use Rattle.worm_theory.specs.LaneMoves.{MovesOne, lane_machine}
 use Rattle.worm_theory.proofs.Machines.{each_moves_one}
@@ -15,9 +14,7 @@ use Rattle.worm_region.specs.declared.step.Moved.{Moved}
 use Rattle.worm_region.specs.declared.step.Moved.TheVariants.{Done, Idle}
 use Rattle.worm_region.specs.declared.fault.StepFault.{StepFault}
 use Rattle.worm_region.specs.declared.fault.StepFault.TheVariants.{NoSuchPlace, Refused, NoMemory}
-use Rattle.worm_core.specs.Headline.{NothingFollowsMarks}
 use Rattle.worm_core.specs.StepMoves.{MovesAfter, MovesOneLane, machine_in}
-use Rattle.worm_core.proofs.Headline.{nothing_follows}
 
 done_moves : (a b : NetState) (step : Step) → IsNet a → IsDone a step b → MovesAfter a step b
 unfolding net_shape
