@@ -1,14 +1,14 @@
 use Rattle.std.proofs.Common.{◌≡◌, ◌==◌, ◌*◌, ◌<◌, ℕ, Bool, true, false, Option, None, Some, IsSome, Ok, Err, List}
-use Rattle.std.proofs.Common.{if◌then◌else◌, length, slice_set, ap, arith, rules, subst, sym, ◌∙◌}
+use Rattle.std.proofs.Common.{if◌then◌else◌, length, slice_set, ap, arith, rules, sym, ◌∙◌}
 use Rattle.std.proofs.lemmas.Grind.{common_steps}
 use Rattle.std.proofs.lemmas.List.{get_or_default, set-get_or}
 use Rattle.worm_flit.specs.declared.Flit.{Flit}
 use Rattle.worm_mesh.specs.Address.{neighbour_of}
-use Rattle.worm_router.specs.Router.{RouterState, IsPlace, leaving, terminal}
+use Rattle.worm_router.specs.Router.{RouterState, leaving, terminal}
 use Rattle.worm_node.specs.declared.node.Node.{Node}
 use Rattle.worm_node.specs.Node.{delivered_node}
 use Rattle.worm_region.specs.Resting.{no_node, nth_node, put_router}
-use Rattle.worm_region.specs.State.{IsNetPlace, NetState, link_at, node_at, router_at, sink_at, with_node}
+use Rattle.worm_region.specs.State.{NetState, link_at, node_at, router_at, sink_at, with_node}
 use Rattle.worm_region.specs.Moves.{LeavesByLink, Sends, link_out}
 use Rattle.worm_region.specs.declared.step.Moved.TheVariants.{Done, Idle}
 use Rattle.worm_region.specs.declared.fault.StepFault.TheVariants.{NoMemory}
