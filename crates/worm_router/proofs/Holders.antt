@@ -6,13 +6,21 @@ use Rattle.std.proofs.lemmas.Bool.{cases_eq}
 use Rattle.std.proofs.lemmas.Nat.{same_from_place}
 use Rattle.std.proofs.lemmas.List.{get_or-set_other}
 use Rattle.std.proofs.lemmas.List.Elements.{All-set, All-get_or, All-replicate}
-use Rattle.worm_records.specs.declared.InRecord.TheVariants.{Idle, Active}
+use Rattle.worm_records.specs.declared.InRecord.TheVariants.{Idle, Active, Waiting}
 use Rattle.worm_records.specs.declared.OutRecord.{OutRecord}
 use Rattle.worm_router.specs.Router.{RouterState, ChannelState, terminal, width, line, fresh_channel, free_output}
 use Rattle.worm_router.specs.Router.{input_at}
 use Rattle.worm_router.specs.Busy.{AreHolders, IsHolder}
 use Rattle.worm_router.proofs.NothingReady.{get_or-replicate_same}
 use Rattle.worm_router.proofs.Places.{IsInput, IsOutput, same_at}
+
+-- a channel that waits holds none
+pub none_by_waiting : {x o k : ℕ} → Waiting x ≡ Active o k → ⊥
+none_by_waiting same = cc
+
+-- nor does one that is idle
+pub none_by_idle : {o k : ℕ} → Idle ≡ Active o k → ⊥
+none_by_idle same = cc
 
 -- an input channel is written that holds nothing new
 pub holders_in : (r : RouterState) (port vc i : ℕ) (had now : ChannelState) → IsInput r port vc i had
