@@ -61,7 +61,8 @@ invariant_of-self c =
               (state_sound _ _ _ _ _ (Active c.args.out c.args.out_vc) had
               (output.place.port_in, output.place.channel_in) active) c.self.invariant.router.lists.inputs_sound;
           credits_fit = All-set (λ (v : OutRecord). v.credits ≤ c.self.inside.depth) c.self.inside.outputs.items
-              c.line-o.result c.grant.new.self (granted_fits _ _ _ c.index_mut-output.result.now c.grant.new.self within c.index_mut-output.ensures.value
+              c.line-o.result c.grant.new.self (granted_fits _ _ _ c.index_mut-output.result.now
+              c.grant.new.self within c.index_mut-output.ensures.value
               (ap (λ (v : OutRecord). v.credits) c.grant.ensures) c.self.invariant.router.lists.credits_fit)
               c.self.invariant.router.lists.credits_fit;
           terminal_full = full_after c.self.inside.outputs.items (2 * length c.self.inside.routes.mesh)

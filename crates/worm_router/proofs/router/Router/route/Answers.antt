@@ -45,7 +45,9 @@ comes_to_wait : (r : RouterState) (sets : BusyChannels) (asked new : DemandView)
     → IsInput r port vc i had → IsKept r sets asked masks → had.state ≡ Idle → out ≤ terminal r
     → slice_get had.buffer 0 ≡ Some front → allowed ≡ class_bits r.channels front.lane.class
     → IsChannel r.mesh r.channels r.depth had → now ≡ in_state had (Waiting out)
-    → new ≡ record asked { requests = with_cell asked.requests port vc (Some (record { out = out; allowed = allowed })) }
+    → new ≡ record asked {
+      requests = with_cell asked.requests port vc (Some (record { out = out; allowed = allowed }));
+    }
     → IsKept (record r { inputs = slice_set r.inputs i now }) sets new masks
 comes_to_wait r sets asked new masks port vc i out had now front allowed input kept was_idle out_in is_front classed
     sound waits asks =
