@@ -3,6 +3,8 @@ pub mod Turning
 pub mod Sent
 pub mod Stopping
 pub mod Workers
+pub mod Gathering
+pub mod Counts
 pub mod Endings
 pub mod Owners
 pub mod Results

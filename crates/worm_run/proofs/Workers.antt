@@ -28,3 +28,8 @@ stops_of-snoc first last [] e at =
 stops_of-snoc first last (x ∷ es) e at =
     ap (λ l. stop_of first x.ended x.why ++ l) (stops_of-snoc (first + 1) last es e (omega arith))
     ∙ sym (append_assoc (stop_of first x.ended x.why) (stops_of (first + 1) es) (stop_of last e.ended e.why))
+
+-- of no parts there are no workers
+pub none_worked : (stop pass : ℕ → ℕ → Type 0) (script : List Entry) (turns : ℕ) (ps : List PartState)
+    (ws : List Worked) → ps ≡ [] → ws ≡ [] → AllWorked stop pass script turns 0 ps ws
+none_worked stop pass script turns ps ws no_parts none = rw (no_parts, none) tt
