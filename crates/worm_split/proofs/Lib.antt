@@ -1,3 +1,5 @@
+pub mod NothingCame
+pub mod Ways
 pub mod ComesByEnd
 pub mod CreditsGiven
 pub mod Crossing

@@ -6,13 +6,14 @@ use Rattle.std.proofs.Math.ListN.{length-set}
 use Rattle.std.proofs.lemmas.Bool.{cases_eq, cases_lt}
 use Rattle.std.proofs.lemmas.List.{get_or_read, get_or-set_other, get_or-set_same}
 use Rattle.worm_mesh.specs.declared.mesh.LinkEnds.{LinkEnds}
+use Rattle.worm_mesh.specs.Links.{link_count}
 use Rattle.worm_theory.proofs.Places.{number_cases}
 use Rattle.worm_region.specs.State.{NetState, IsFramed}
 use Rattle.worm_wires.specs.Links.{LinkView, blank_link}
 use Rattle.worm_split.specs.declared.ends.EndPair.{EndPair}
 use Rattle.worm_split.specs.declared.ends.End.{End}
 use Rattle.worm_split.specs.declared.ends.End.TheVariants.{Inner, Leaving, Entering}
-use Rattle.worm_split.specs.Apart.{Apart, Fits, with_lists}
+use Rattle.worm_split.specs.Apart.{Apart, AreWays, Fits, with_lists}
 use Rattle.worm_split.specs.Ends.{pair_at, no_pair}
 use Rattle.worm_split.specs.Exchange.{way_at}
 use Rattle.worm_split.proofs.Exchanged.{framed_with}
@@ -134,3 +135,50 @@ module _ (workers k : ℕ) (old now : Apart) (fits : Fits old) (so_far : PairsSo
         ways = so_far.ways;
         rest = ap (λ (s : NetState). with_lists s s.nodes more_links) so_far.rest;
       }
+
+-- before the first pair
+pub pairs_none : (workers : ℕ) (old new : Apart) → new ≡ old → PairsSoFar workers 0 old new
+pairs_none workers old new same = subst (λ (a : Apart). PairsSoFar workers 0 old a) (sym same) (record {
+  emptied = record { same_length = refl; done = λ k below. absurd (omega arith); within = λ k here. refl };
+  ahead = λ k above. refl;
+  pairs_ahead = λ k above. refl;
+  pairs_length = refl;
+  ways = refl;
+  rest = refl;
+})
+
+-- how many ways there are
+pub ways_below : (k end len : ℕ) (ways all : List LinkEnds) → k < end → end ≡ len → len ≡ length ways → ways ≡ all →
+    k < length all
+ways_below k end len ways all below ends is same = let n = ap (λ (l : List LinkEnds). length l) same in omega arith
+
+pub ways_done : (k end len : ℕ) (ways all : List LinkEnds) → end ≤ k → k ≤ end → end ≡ len → len ≡ length ways →
+    ways ≡ all → k ≡ length all
+ways_done k end len ways all above below ends is same =
+    let n = ap (λ (l : List LinkEnds). length l) same in
+    omega arith
+
+module _ (workers count k len : ℕ) (old new : Apart) (fits : Fits old) (so_far : PairsSoFar workers count old new)
+    (below : k < length old.ways) where
+  pub way_there : len ≡ length new.ways → k < len
+  way_there is = let n = ap (λ (l : List LinkEnds). length l) so_far.ways in omega arith
+
+  pub pair_there : len ≡ length new.pairs → k < len
+  pair_there is = let a = so_far.pairs_length in let b = fits.all_pairs in let c = fits.ways.all in omega arith
+
+  pub link_there : len ≡ length new.net.links → k < len
+  link_there is =
+      let a = so_far.emptied.same_length in let b = fits.framed.all_links in let c = fits.ways.all in omega arith
+
+-- the lists fit one another after the last pair, too
+pub emptied_fits : (workers count : ℕ) (old new : Apart) → Fits old → PairsSoFar workers count old new →
+    count ≡ length old.ways → Fits new
+emptied_fits workers count old new fits so_far all = record {
+  framed = subst IsFramed (sym so_far.rest) (emptied_framed workers old new.net.links fits
+      (subst (λ (n : ℕ). AreEmptied workers n old.ways old.pairs old.net.links new.net.links) all so_far.emptied));
+  all_owned = ap (λ (s : NetState). s.own) so_far.rest ∙ fits.all_owned;
+  ways = subst (λ (s : NetState). AreWays s.mesh new.ways) (sym so_far.rest)
+      (subst (λ (l : List LinkEnds). AreWays old.net.mesh l) (sym so_far.ways) fits.ways);
+  all_pairs = so_far.pairs_length
+      ∙ (fits.all_pairs ∙ ap (λ (s : NetState). link_count s.mesh) (sym so_far.rest));
+}

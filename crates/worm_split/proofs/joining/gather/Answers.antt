@@ -1,8 +1,8 @@
-use Rattle.std.proofs.Common.{◌≡◌, List, Option, subst, sym}
+use Rattle.std.proofs.Common.{◌≡◌, ◌<◌, arith, List, Option, subst, sym}
 use Rattle.worm_region.specs.State.{IsFramed, NetState}
 use Rattle.worm_split.specs.declared.ends.End.{End}
 use Rattle.worm_split.specs.Apart.{Apart, ArePaired, IsKept, IsPutBack}
-use Rattle.worm_split.specs.PartState.{PartState, HasConfigOf}
+use Rattle.worm_split.specs.PartState.{PartState, HasConfigOf, IsPart}
 use Rattle.worm_split.proofs.Popping.{gather_first, gather_step, its_lists, lists_step}
 use Rattle.worm_split.proofs.joining.gather.Goals as goal
 
@@ -59,3 +59,17 @@ loop-part-preserved c =
     (subst IsFramed its.net c.recall-in-Some-pop.ensures.framed) s.whole c.put_back-in-Some-pop.new.self
     s.invariant.gathered
     (its_put _ _ p s.whole c.put_back-in-Some-pop.new.self its.net its.ends c.put_back-in-Some-pop.ensures)
+
+-- each part is one of some workers'
+has_workers : (s : NetState) (p : PartState) → s ≡ p.net → IsPart p → 0 < s.own.workers
+has_workers s p net part =
+    subst (λ (n : NetState). 0 < n.own.workers) (sym net) (let below = part.worker in omega arith)
+
+pub put_back-requires-clause-workers : goal.put_back-requires-clause-workers
+put_back-requires-clause-workers c =
+    has_workers _ c.in-Some.last c.into_pieces-region.ensures.net c.into_pieces-region.ensures.part
+
+pub put_back-requires-in-Some-pop-clause-workers : goal.put_back-requires-in-Some-pop-clause-workers
+put_back-requires-in-Some-pop-clause-workers c =
+    let its = c.into_pieces-region-in-Some-pop.ensures in
+    has_workers _ c.in-Some-pop.part its.net its.part

@@ -1,9 +1,10 @@
-use Rattle.std.proofs.Common.{inr, refl, arith, sym, subst, ◌∙◌}
+use Rattle.std.proofs.Common.{◌≡◌, inl, inr, refl, arith, sym, subst, ◌∙◌}
 use Rattle.worm_region.specs.declared.owner.Owner.{Owner}
 use Rattle.worm_split.specs.Apart.{IsKept}
-use Rattle.worm_split.specs.PartState.{part_state}
+use Rattle.worm_split.specs.PartState.{IsPart, part_state}
 use Rattle.worm_split.proofs.ComesByEnd.{CreditInHand, credit_taken, credit_put}
 use Rattle.worm_split.proofs.EndsKnown.{HasLinks, ends_elsewhere_here, out_end_bound, port_linked}
+use Rattle.worm_split.proofs.NothingCame.{nothing_off, still_same}
 use Rattle.worm_split.proofs.part.Part.pull_credit.Goals as goal
 use Rattle.worm_split.proofs.part.Part.pull_credit.Goals.{In-Some, In-Some-pop_credit}
 
@@ -64,3 +65,28 @@ returns c =
     let put = credit_put (in_hand (goal.at.returns c).In-Some-pop_credit) c.arrive_credit.new.self
     c.arrive_credit.ensures in
     rw (← c.self.view_is) (record { pulls = (refl, inr put.1); same = put.2 })
+
+pub returns-in_default : goal.returns-in_default
+returns-in_default c = record { pulls = (refl, inl refl); same = still_same c.args.self.now _ refl }
+
+pub returns-then-not-is_leaving : goal.returns-then-not-is_leaving
+returns-then-not-is_leaving c = record { pulls = (refl, inl refl); same = still_same c.args.self.now _ refl }
+
+pub returns-then-has_credit_back : goal.returns-then-has_credit_back
+returns-then-has_credit_back c = record { pulls = (refl, inl refl); same = still_same c.args.self.now _ refl }
+
+-- where nothing came off
+
+pub returns-in_default-pop_credit : goal.returns-in_default-pop_credit
+returns-in_default-pop_credit c =
+    let i = c.self.inside in
+    let still = nothing_off (part_state i.region i.ends.items i.opening.value i.pairs.value.items) c.from-number.result
+    c.index_mut.result.now c.pop_credit.new.end c.index_mut.ensures.value c.in_default-pop_credit.ensures.none ∙ c.self.view_is in
+    record { pulls = (refl, inl still); same = still_same c.args.self.now _ still }
+
+pub invariant_of-self : goal.invariant_of-self
+invariant_of-self c =
+    let i = c.self.inside in
+    let still = nothing_off (part_state i.region i.ends.items i.opening.value i.pairs.value.items) c.from-number.result
+    c.index_mut.result.now c.pop_credit.new.end c.index_mut.ensures.value c.in_default-pop_credit.ensures.none in
+    (subst IsPart (sym still) c.self.invariant.0, c.self.invariant.1)
