@@ -1,3 +1,4 @@
+pub mod Opened
 pub mod NothingCame
 pub mod Ways
 pub mod ComesByEnd

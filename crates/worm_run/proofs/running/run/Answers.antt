@@ -1,7 +1,7 @@
 use Rattle.std.proofs.Common.{◌<◌, ℕ, List, refl, subst, sym, ◌∙◌}
 use Rattle.worm_split.specs.Joins.{AreParts}
 use Rattle.worm_split.specs.PartState.{PartState}
-use Rattle.worm_run.specs.Runs.{HasRooms, HasWorkers}
+use Rattle.worm_run.specs.Runs.{HasRooms}
 use Rattle.worm_run.proofs.Owners.{are_parts}
 use Rattle.worm_run.proofs.Results.{later_of, run_of, runs_to}
 use Rattle.worm_run.proofs.Counts.{at_least_one, below_all, has_workers}

@@ -1,4 +1,4 @@
-use Rattle.std.proofs.Common.{◌≡◌, inl, inr, refl, arith, sym, subst, ◌∙◌}
+use Rattle.std.proofs.Common.{inl, inr, refl, arith, sym, subst, ◌∙◌}
 use Rattle.worm_region.specs.declared.owner.Owner.{Owner}
 use Rattle.worm_split.specs.Apart.{IsKept}
 use Rattle.worm_split.specs.PartState.{IsPart, part_state}

@@ -1,4 +1,4 @@
-use Rattle.std.proofs.Common.{◌≡◌, Some, sym, subst}
+use Rattle.std.proofs.Common.{◌≡◌, ℕ, ◌<◌, ◌∙◌, Some, sym, subst}
 use Rattle.worm_router.specs.Router.{leaving}
 use Rattle.worm_theory.specs.Steps.{Send, IsThere}
 use Rattle.worm_region.specs.State.{router_at, shape}
@@ -7,6 +7,8 @@ use Rattle.worm_split.specs.Apart.{IsKept}
 use Rattle.worm_split.specs.PartState.{PartState, IsPart, part_state}
 use Rattle.worm_split.specs.PartTurns.{LeavesBy}
 use Rattle.worm_split.proofs.GoesByEnd.{IsGoing, ends_elsewhere, may_go, went, stayed}
+use Rattle.worm_split.proofs.EndsKnown.{HasLinks, out_end_bound}
+use Rattle.worm_split.proofs.NothingCame.{still_same}
 use Rattle.worm_split.proofs.part.Part.send_across.Goals as goal
 use Rattle.worm_split.proofs.part.Part.send_across.Goals.{After-index_mut}
 use Rattle.worm_split.proofs.part.Part.send_across.Given as given
@@ -66,3 +68,23 @@ returns-else-push_flit-clause-sends g c =
     let kept = stayed (going g (goal.at.returns-else-push_flit-clause-sends g c).After-index_mut) c.push_flit.new.end
     c.if-push_flit.ensures in
     rw (← c.self.view_is) kept.1
+
+pub returns-then-push_flit-clause-same : goal.returns-then-push_flit-clause-same
+returns-then-push_flit-clause-same g c =
+    let landed = went (going g (goal.at.returns-then-push_flit-clause-same g c).After-index_mut) c.push_flit.new.end
+    c.sent.new.self c.if-push_flit.ensures c.sent.ensures in
+    rw (← c.self.view_is) landed.2
+
+pub returns-else-push_flit-clause-same : goal.returns-else-push_flit-clause-same
+returns-else-push_flit-clause-same g c =
+    let kept = stayed (going g (goal.at.returns-else-push_flit-clause-same g c).After-index_mut) c.push_flit.new.end
+    c.if-push_flit.ensures in
+    still_same c.args.self.now _ (kept.0 ∙ c.self.view_is)
+
+pub index_mut-requires : goal.index_mut-requires
+index_mut-requires g c =
+    let i = c.self.inside in
+    let has : HasLinks (part_state i.region i.ends.items i.opening.value i.pairs.value.items) c.args.node c.args.out
+    c.links_beyond-links.result
+    = record { part = c.self.invariant.0; framed = c.recall.ensures.framed; at = c.links_beyond-links.ensures } in
+    subst (λ (len : ℕ). c.from.result < len) (sym i.ends.ok.0) (out_end_bound has _ c.from.ensures)
