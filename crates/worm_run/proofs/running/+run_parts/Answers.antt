@@ -29,5 +29,6 @@ pub returns-then-is_empty-clause-worked : goal.returns-then-is_empty-clause-work
 returns-then-is_empty-clause-worked g t c =
     let parts = c.args.parts.now in
     let done = c.args.done.now in
-    none_worked _ _ _ _ parts.items done.items (no_items parts.items parts.len parts.ok.0 (is_zero _ c.if-is_empty.ensures))
+    none_worked _ _ _ _ parts.items done.items
+    (no_items parts.items parts.len parts.ok.0 (is_zero _ c.if-is_empty.ensures))
     (no_items done.items done.len done.ok.0 c.requires.empty)

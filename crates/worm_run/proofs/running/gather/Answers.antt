@@ -5,7 +5,8 @@ use Rattle.worm_run.specs.Working.{stop_of}
 use Rattle.worm_run.specs.Runs.{Ending, ending_of, stops_of}
 use Rattle.worm_run.specs.declared.working.Worked.{Worked}
 use Rattle.worm_run.proofs.Workers.{stops_of-snoc}
-use Rattle.worm_run.proofs.Gathering.{all_came, fewer, from_none, grown, has_room, has_stop_room, less, next_fits, none_of_none, one_more}
+use Rattle.worm_run.proofs.Gathering.{all_came, fewer, from_none, grown, has_room, has_stop_room}
+use Rattle.worm_run.proofs.Gathering.{less, next_fits, none_of_none, one_more}
 use Rattle.worm_run.proofs.running.gather.Goals as goal
 
 pub loop-worked-preserved : goal.loop-worked-preserved

@@ -11,7 +11,10 @@ pub gather-requires-clause-parts : goal.gather-requires-clause-parts
 gather-requires-clause-parts g c =
     let parts = c.run_parts.new.parts in
     let told = c.in_ok-run_parts.ensures in
-    (no_items parts.items parts.len parts.ok.0 told.taken, grown_from _ _ _ _ told.all c.args.parts.ok.1 told.parts_room)
+    (
+      no_items parts.items parts.len parts.ok.0 told.taken,
+      grown_from _ _ _ _ told.all c.args.parts.ok.1 told.parts_room,
+    )
 
 pub gather-requires-clause-stops : goal.gather-requires-clause-stops
 gather-requires-clause-stops g c =

@@ -84,7 +84,8 @@ pub returns-in_default-pop_flit : goal.returns-in_default-pop_flit
 returns-in_default-pop_flit c =
     let i = c.self.inside in
     let still = nothing_off (part_state i.region i.ends.items i.opening.value i.pairs.value.items) c.from-number.result
-    c.index_mut.result.now c.pop_flit.new.end c.index_mut.ensures.value c.in_default-pop_flit.ensures.none ∙ c.self.view_is in
+    c.index_mut.result.now c.pop_flit.new.end c.index_mut.ensures.value c.in_default-pop_flit.ensures.none
+    ∙ c.self.view_is in
     record { pulls = (refl, inl still); same = still_same c.args.self.now _ still }
 
 pub invariant_of-self : goal.invariant_of-self
