@@ -30,8 +30,8 @@ returns-in_default g c =
     let config = view c.in_ok-accepted.accepted.config in
     let said = c.in_ok-accepted.ensures in
     let nodes : c.args.options.now.workers ≤ node_count config.radices =
-        at_most c.has_nodes.result c.args.options.now.workers (node_count config.radices) c.has_nodes.ensures
-        c.if-not-has_nodes.false in
+    at_most c.has_nodes.result c.args.options.now.workers (node_count config.radices) c.has_nodes.ensures
+    c.if-not-has_nodes.false in
     inl (
       inr record {
         config = config;

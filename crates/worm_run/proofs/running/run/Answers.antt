@@ -42,8 +42,7 @@ returns-in_default-clause-fails g c =
 
 pub returns-in-Err-clause-fails : goal.returns-in-Err-clause-fails
 returns-in-Err-clause-fails g c =
-    let some = c.if-workers-eq0.false in
-    (
+    let some = c.if-workers-eq0.false in (
       c.in-Err.ensures.back,
       has_workers _ _ _ _ some c.if-workers-gt16.false c.if-workers-from.false c.from.ensures c.nodes.ensures.value,
     )
@@ -54,8 +53,7 @@ run_all-requires-after_bounds g c κs within =
 
 pub returns-in-Err-run_all-clause-fails : goal.returns-in-Err-run_all-clause-fails
 returns-in-Err-run_all-clause-fails g c =
-    let some = c.if-workers-eq0.false in
-    (
+    let some = c.if-workers-eq0.false in (
       below_all _ _ _ _ c.in-Err-run_all.ensures.refused c.in-Ok-split.parts.ok.0 c.in-Ok-split.ensures.parts.count,
       has_workers _ _ _ _ some c.if-workers-gt16.false c.if-workers-from.false c.from.ensures c.nodes.ensures.value,
     )

@@ -29,6 +29,6 @@ invariant_of-self c =
       subst IsSource (sym (after c)) (fed_sound c.args.self.now c.args.class sound (there c)),
       c.self.invariant.1,
       put_unfed c.self.inside.queues.items c.self.inside.unfed c.put.new.self c.from.result c.args.class
-      c.feed-has_more.new.self c.feed-has_more.result c.self.invariant.2 c.from.ensures inside c.put.ensures
-      c.feed-has_more.ensures.left,
+          c.feed-has_more.new.self c.feed-has_more.result c.self.invariant.2 c.from.ensures inside c.put.ensures
+          c.feed-has_more.ensures.left,
     )

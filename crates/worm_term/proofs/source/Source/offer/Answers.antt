@@ -45,9 +45,9 @@ invariant_of-self c =
 pub returns-then-is_err : goal.returns-then-is_err
 returns-then-is_err c = record {
   answer = no_memory _ c.args.self.now _ _
-  (subst (λ (l : Lane). refusal c.args.self.now l false ≡ None) c.lane-lane.ensures c.in_ok-i.ensures.taken)
-  (ap (λ (qs : List QueueState). source_state c.self.inside.node c.self.inside.nodes c.self.inside.classes qs
-  c.self.inside.lanes.items) (back c) ∙ c.self.view_is);
+      (subst (λ (l : Lane). refusal c.args.self.now l false ≡ None) c.lane-lane.ensures c.in_ok-i.ensures.taken)
+      (ap (λ (qs : List QueueState). source_state c.self.inside.node c.self.inside.nodes c.self.inside.classes qs
+      c.self.inside.lanes.items) (back c) ∙ c.self.view_is);
   number = tt;
   there = tt;
 }
