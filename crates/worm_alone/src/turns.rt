@@ -1,6 +1,6 @@
 //! A script's turns on one thread, and the drain after them.
 
-ghost use Rattle.std.specs.Prelude.{◌<◌, None, Some, MatchOption};
+ghost use Rattle.std.specs.Prelude.{◌<◌, None, MatchOption};
 ghost use Rattle.worm_region.specs.Turns.{Drains, OneThreadRun, Turns};
 ghost use Rattle.worm_alone.specs.Programs.{StopsAt};
 

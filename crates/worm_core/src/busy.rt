@@ -1,7 +1,6 @@
 //! Lanes that may have something under way, found in one pass over the network: a report views these alone.
 
-ghost use Rattle.std.specs.Prelude.{ℕ, true, false, not, ◌≡◌, ◌*◌, ◌<◌, ◌≤◌, IfOk, IsSome, IsTrue, drop, length};
-ghost use Rattle.std.specs.Prelude.{replicate};
+ghost use Rattle.std.specs.Prelude.{ℕ, false, not, ◌≡◌, ◌*◌, ◌<◌, ◌≤◌, IfOk, IsSome, IsTrue, drop, length, replicate};
 ghost use Rattle.std.specs.List.{list_all};
 ghost use Rattle.worm_mesh.specs.Address.{neighbour_of, node_count};
 ghost use Rattle.worm_router.specs.Router.{IsPlace, input_at, terminal, width};

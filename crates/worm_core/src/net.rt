@@ -1,7 +1,6 @@
 //! A sound network: its steps, runs of them, and its turns.
 
-ghost use Rattle.std.specs.Prelude.{None, Some, ◌≡◌, ◌≤◌, ◌<◌, ◌↔◌, Result, IsTrue};
-ghost use Rattle.std.specs.Prelude.{IfOk, Ok, length, take, Err};
+ghost use Rattle.std.specs.Prelude.{◌≡◌, ◌≤◌, ◌<◌, ◌↔◌, IsTrue, IfOk, Ok, length, take, Err};
 ghost use Rattle.worm_region.specs.Runs.{AreAnswered, IsRun, StopsBehind, event_of};
 ghost use Rattle.worm_region.specs.Answers.{Answers, ArbitersStand, AsksSource};
 ghost use Rattle.worm_region.specs.declared.step.Moved.TheVariants.{Idle};

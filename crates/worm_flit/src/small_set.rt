@@ -5,7 +5,7 @@ ghost use Rattle.worm_flit.specs.SmallSet.{has, IsFirst, IsPut};
 
 use std::marker::Model;
 
-/// A set of numbers 0 to 7: of the mesh ports of a node, or of classes.
+/// A set of numbers 0 to 7: of ports, of channels, or of classes.
 ///
 /// ```text
 /// let mut left = links.flits_in(node);

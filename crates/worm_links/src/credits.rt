@@ -1,5 +1,5 @@
 //! The ends of a credit line, the queue on which channel numbers go back as credits (Dally and Towles, chapter 13).
-ghost use Rattle.std.specs.Prelude.{◌≡◌, ◌*◌, ◌<◌, ◌≤◌, [], ◌∷◌, ◌++◌, length, List, IfOk, IfErr, IfSome, IfNone};
+ghost use Rattle.std.specs.Prelude.{◌≡◌, ◌<◌, ◌≤◌, [], ◌∷◌, ◌++◌, length, List, IfOk, IfErr, IfSome, IfNone};
 ghost use Rattle.crossbeam_queue.specs.Passes.{view, IsPassOf, IsSamePass};
 ghost use Rattle.worm_links.specs.History.{sender, taker, whole};
 ghost use Rattle.worm_links.specs.Links.{no_link, opened, link_capacity, IsCreditHistory};

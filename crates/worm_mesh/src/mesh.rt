@@ -1,4 +1,4 @@
-ghost use Rattle.std.specs.Prelude.{◌≡◌, ℕ, ◌+◌, ◌-◌, ◌*◌, ◌/◌, ◌%◌, ◌^◌, ◌<◌, ◌≤◌, ◌↔◌, List, length, MatchResult};
+ghost use Rattle.std.specs.Prelude.{◌≡◌, ℕ, ◌+◌, ◌-◌, ◌*◌, ◌^◌, ◌<◌, ◌≤◌, ◌↔◌, List, length, MatchResult};
 ghost use Rattle.std.specs.Prelude.{MatchOption, SomeIff, IfSome, IsTrue, All, take, drop, replicate, slice_index};
 ghost use Rattle.worm_mesh.specs.Address.{IsRadix};
 ghost use Rattle.worm_mesh.specs.Links.{degree_by_digits, links_in_rows, sides_of, sum_below};

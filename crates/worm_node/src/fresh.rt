@@ -1,10 +1,9 @@
 //! The nodes of a new network.
 
-ghost use Rattle.std.specs.Prelude.{◌≡◌, ◌<◌, ◌≤◌, ◌+◌, IfOk, Err, Some, length, slice_set};
+ghost use Rattle.std.specs.Prelude.{◌≡◌, ◌<◌, ◌≤◌, ◌+◌, IfOk, Some, length, slice_set};
 ghost use Rattle.worm_flit.specs.Channels.{AreChannels};
 ghost use Rattle.worm_mesh.specs.Address.{AreRadices, node_count};
-ghost use Rattle.worm_node.specs.NewNodes.{AreFresh, AreMade};
-ghost use Rattle.worm_node.specs.NewNodes.{fresh_node};
+ghost use Rattle.worm_node.specs.NewNodes.{AreFresh, AreMade, fresh_node};
 
 use crate::Node;
 use std::alloc::{AllocError, Global};

@@ -1,11 +1,9 @@
 //! A node by itself: what passes between its source, its router and its sink.
 
-ghost use Rattle.std.specs.Prelude.{ℕ, true, false, ◌≡◌, ◌<◌, Some, None};
-ghost use Rattle.std.specs.Prelude.{if◌then◌else◌};
+ghost use Rattle.std.specs.Prelude.{ℕ, ◌≡◌, ◌<◌, Some, if◌then◌else◌};
 ghost use Rattle.worm_router.specs.Router.{IsPlace, terminal, leaving};
 ghost use Rattle.worm_term.specs.Source.{classes, front_of};
-ghost use Rattle.worm_node.specs.Node.{AreToFeed, FrontFits, can_enter, delivered_node};
-ghost use Rattle.worm_node.specs.Node.{fed_node};
+ghost use Rattle.worm_node.specs.Node.{AreToFeed, FrontFits, can_enter, delivered_node, fed_node};
 
 use worm_flit::{Flit, SmallSet};
 use worm_router::Router;
@@ -43,9 +41,11 @@ impl Node {
             return false;
         }
         let Some(flit) = self.source.front(class) else {
-            return false;
+            unreachable!()
         };
-        let _done = self.router.accept(port, flit);
+        let Ok(()) = self.router.accept(port, flit) else {
+            unreachable!()
+        };
         self.source.fed(class);
         true
     }

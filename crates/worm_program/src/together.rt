@@ -1,6 +1,6 @@
 //! A run by several workers, each on a thread of its own, and the drain after it.
 
-ghost use Rattle.std.specs.Prelude.{None, Some, ◌≡◌, ◌<◌, IfOk, IfErr, if◌then◌else◌};
+ghost use Rattle.std.specs.Prelude.{◌≡◌, ◌<◌, IfOk, IfErr};
 ghost use Rattle.worm_run.specs.Runs.{HasWorkers};
 ghost use Rattle.worm_program.specs.Together.{AreStopsOf, DrainsUnstopped, EndsTogether, lack_memory, stop_turn};
 

@@ -5,7 +5,7 @@
 //! without a credit) are not kept: a credit count and a buffer tell them.
 #![tactic(auto)]
 
-ghost use Rattle.std.specs.Prelude.{◌≡◌, ◌+◌, ◌-◌, ◌<◌, ◌≤◌, ℕ, Some, None, IsSome};
+ghost use Rattle.std.specs.Prelude.{◌≡◌, ◌+◌, ◌-◌, ◌<◌, ℕ, Some, None, IsSome};
 
 /// What an input channel does with the packet at its front.
 #[derive(Clone, Copy, PartialEq, Eq, Debug)]
@@ -61,7 +61,7 @@ impl InRecord {
 pub struct OutRecord {
     /// The input channel that holds this output channel, as its port and channel; None while it is free.
     pub holder: Option<(u8, u8)>,
-    /// How many flits the buffer at the far end can still take, at most its depth.
+    /// How many flits may still be sent, 0 to the depth of the buffer at the far end; at the terminal always the depth.
     pub credits: u8,
 }
 

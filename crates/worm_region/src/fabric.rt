@@ -1,20 +1,15 @@
 //! The lists of a network, nodes and links by number, and what reads and changes them at one place.
 
-ghost use Rattle.std.specs.Prelude.{true, false, IfOk, ◌==◌, ◌≡◌, ◌*◌, ◌<◌, ◌≤◌, ◌↔◌};
-ghost use Rattle.std.specs.Prelude.{IsTrue, IsSome, ◌⊎◌, None, Some, IfSome};
-ghost use Rattle.std.specs.Prelude.{if◌then◌else◌, length, sum};
+ghost use Rattle.std.specs.Prelude.{IfOk, ◌≡◌, ◌*◌, ◌<◌, ◌≤◌, ◌↔◌, IsTrue, IsSome, ◌⊎◌, if◌then◌else◌, length, sum};
 ghost use Rattle.worm_flit.specs.Channels.{AreChannels};
 ghost use Rattle.worm_region.specs.NewNet.{IsFresh};
 ghost use Rattle.worm_mesh.specs.Address.{AreRadices, node_count, neighbour_of};
-ghost use Rattle.worm_mesh.specs.Links.{link_count};
 ghost use Rattle.worm_router.specs.Router.{after_route, can_route, input_at, leaving, terminal};
 ghost use Rattle.worm_region.specs.State.{IsNetPlace, link_at, node_at, router_at, sink_at, source_at, texts_of};
-ghost use Rattle.worm_region.specs.State.{with_node, with_router, with_source};
-ghost use Rattle.worm_node.specs.Node.{FrontFits};
-ghost use Rattle.worm_region.specs.Moves.{CreditFits, LeavesByLink, Sends, after_getting, after_giving};
-ghost use Rattle.worm_node.specs.Node.{can_enter, fed_node};
-ghost use Rattle.worm_region.specs.Moves.{after_take, can_get, front_credit, front_into};
-ghost use Rattle.worm_region.specs.Moves.{link_into, link_out};
+ghost use Rattle.worm_region.specs.State.{with_router, with_source};
+ghost use Rattle.worm_node.specs.Node.{FrontFits, can_enter};
+ghost use Rattle.worm_region.specs.Moves.{CreditFits, LeavesByLink, Sends, after_getting, after_giving, after_take};
+ghost use Rattle.worm_region.specs.Moves.{can_get, front_credit, front_into, link_into};
 ghost use Rattle.worm_region.specs.UnderWay.{IsUnderWay, accepted_in, taken_in};
 ghost use Rattle.std.specs.Borrow.{Lends, sem};
 ghost use Rattle.worm_region.specs.contracts.fabric.Fabric.{the_row};
@@ -40,12 +35,17 @@ use worm_wires::{Inboxes, Links, fresh_links};
 /// The nodes by number and the links by number, whatever they hold (Dally and Towles, chapters 5, 13 and 16).
 #[derive(Drop)]
 pub struct Fabric {
+    /// The links, with the mesh that they make.
     pub(crate) links: Links,
+    /// Which class owns which channels.
     pub(crate) classes: ClassChannels,
+    /// How many flits a channel's buffer holds, 1 to 16.
     pub(crate) depth: u8,
+    /// The names of the classes.
     pub(crate) names: ArrayVec<Name, 4>,
+    /// The nodes, by number.
     pub(crate) nodes: Nodes,
-    /// Which of the nodes are owned by whoever has the fabric. No code asks; what holds of a fabric does.
+    /// Which of the nodes are owned by whoever has the fabric. No move reads it; a part walks its nodes by it.
     pub(crate) own: Owner,
 }
 
@@ -139,7 +139,8 @@ impl Fabric {
         self.nodes.router_mut(node).route(port, vc)
     }
 
-    /// The terminal port is the router's own: so the compiler knows that a flit for a link costs a credit.
+    /// Lets the ready flit out, onto its link or into the sink. `Idle` where none is ready, or one for the terminal is
+    /// not at home; `NoMemory` where there is none for a delivered flit.
     #[inline(always)]
     pub(crate) fn send(&mut self, node: u8, port: u8, vc: u8) -> Result<Moved, StepFault>
         requires place { IsNetPlace self.old node port vc }
@@ -149,6 +150,7 @@ impl Fabric {
         ensures { Sends self.old node port vc (leaving (router_at self.old node) port vc) result self.new }
     {
         let router = self.nodes.router_mut(node);
+        // The router's own number: so the compiler knows that a flit for a link costs a credit.
         let terminal = router.terminal();
         let Some((out, flit)) = router.ready(port, vc) else {
             return Ok(Moved::Idle);

@@ -4,9 +4,8 @@ ghost use Rattle.std.specs.Prelude.{ℕ, ◌≡◌, ◌+◌, ◌<◌, IsTrue, So
 ghost use Rattle.std.specs.Borrow.{Lends, sem};
 ghost use Rattle.worm_router.specs.Router.{IsPlace, leaving, terminal};
 ghost use Rattle.worm_term.specs.Source.{classes, front_of};
-ghost use Rattle.worm_node.specs.Node.{FrontFits, can_enter, delivered_node, fed_node};
+ghost use Rattle.worm_node.specs.Node.{FrontFits, can_enter, delivered_node, fed_node, HasClasses};
 ghost use Rattle.worm_region.specs.Resting.{IsResting, nth_node, put_router, put_source};
-ghost use Rattle.worm_node.specs.Node.{HasClasses};
 ghost use Rattle.worm_region.specs.UnderWay.{HaveClasses, IsUnderWay, accepted_by, accepted_in, taken_in};
 ghost use Rattle.worm_region.specs.contracts.nodes.Nodes.{the_row};
 ghost use Rattle.worm_router.specs.contracts.router.Router.{the_row as router_row};

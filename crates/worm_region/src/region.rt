@@ -1,7 +1,6 @@
 //! The moves of a network's lists: small steps, each of which keeps what the moves need.
 
-ghost use Rattle.std.specs.Prelude.{None, Some, ◌≡◌, ◌≤◌, ◌<◌, ◌*◌, Result, IsTrue, Ok, IsSome};
-ghost use Rattle.std.specs.Prelude.{sum, length, IfSome, IfOk, Err, ◌↔◌};
+ghost use Rattle.std.specs.Prelude.{None, Some, ◌≡◌, ◌≤◌, ◌<◌, ◌*◌, IsTrue, Ok, IsSome, length, IfSome, IfOk, Err, ◌↔◌};
 ghost use Rattle.worm_theory.specs.Steps.{IsThere, Step as Event};
 ghost use Rattle.worm_region.specs.Runs.{event_of};
 ghost use Rattle.worm_region.specs.Replies.{Attempts, Replies};
@@ -12,8 +11,7 @@ ghost use Rattle.worm_region.specs.State.{IsNet, shape, router_at, texts_of, wit
 ghost use Rattle.worm_region.specs.Owned.{sole};
 ghost use Rattle.worm_wires.specs.Wiring.{port_links};
 ghost use Rattle.worm_region.specs.Workable.{EndsWithin, IsWorkable, owned};
-ghost use Rattle.worm_region.specs.Turns.{AreThere, Chooses, ComesInBy, NodePassesBy};
-ghost use Rattle.worm_region.specs.Turns.{ReachesAt};
+ghost use Rattle.worm_region.specs.Turns.{AreThere, Chooses, ComesInBy, NodePassesBy, ReachesAt};
 ghost use Rattle.worm_mesh.specs.Address.{node_count, neighbour_of};
 ghost use Rattle.worm_router.specs.Router.{input_at, leaving};
 ghost use Rattle.worm_router.specs.Busy.{IsSetOf, OweByLinks, lacks_route, owes};
@@ -36,7 +34,8 @@ use worm_vcalloc::ChannelSet;
 use worm_wires::PortLinks;
 
 /// The nodes and links of a network, or of one worker's part, with the invariant that every step needs and keeps.
-/// Others stand for the nodes that are not owned; a link from one holds what is off its queue and in no buffer.
+/// Fresh ones stand in the places of nodes that are not owned; a link from one holds what is off its queue and in no
+/// buffer.
 #[derive(Drop)]
 pub struct Region {
     fabric: Fabric,
@@ -202,7 +201,7 @@ impl Region {
         self.fabric.node(node).router.owing()
     }
 
-    /// Whether the node is at rest, so that its turn only asks its source. A node at rest may not be found to be.
+    /// Whether the node is at rest, so that its turn only asks its source. False tells nothing.
     #[inline(always)]
     pub fn rests(&mut self, node: u8) -> bool
         requires { node < node_count self.old.mesh }

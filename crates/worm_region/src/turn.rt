@@ -1,6 +1,6 @@
 //! The turn of a node, and the turns of all nodes in rising number.
 
-ghost use Rattle.std.specs.Prelude.{List, [], ◌≡◌, ◌<◌, ◌*◌, Option, None, Some, true, false};
+ghost use Rattle.std.specs.Prelude.{List, [], ◌≡◌, ◌<◌, Option, None, false};
 ghost use Rattle.std.specs.Result.{result_err};
 ghost use Rattle.worm_mesh.specs.Address.{node_count};
 ghost use Rattle.worm_region.specs.Replies.{Attempts, Replies};
@@ -8,10 +8,9 @@ ghost use Rattle.worm_script.specs.Script.{begun_at};
 ghost use Rattle.worm_region.specs.Owned.{sole};
 ghost use Rattle.worm_swalloc.specs.SwAlloc.{AreGranted};
 ghost use Rattle.worm_swalloc.specs.declared.grant.SwGrant.{SwGrant};
-ghost use Rattle.worm_region.specs.Turns.{Does, ForEach, ReachesAt, all_nodes, ask, fault_of};
-ghost use Rattle.worm_region.specs.Turns.{AsksSourceBy, ComesInBy, FeedsClassesBy, GivesCreditsBy};
-ghost use Rattle.worm_region.specs.Turns.{NodePassesBy, NodeTurnBy, RoutesChannelsBy, SendsBy, TakesCreditsBy};
-ghost use Rattle.worm_region.specs.Turns.{TakesFlitsBy, AreGrants, AreMarked, AreThere};
+ghost use Rattle.worm_region.specs.Turns.{Does, ForEach, ReachesAt, all_nodes, ask, fault_of, AsksSourceBy, ComesInBy};
+ghost use Rattle.worm_region.specs.Turns.{FeedsClassesBy, GivesCreditsBy, NodePassesBy, NodeTurnBy, RoutesChannelsBy};
+ghost use Rattle.worm_region.specs.Turns.{SendsBy, TakesCreditsBy, TakesFlitsBy, AreGrants, AreMarked, AreThere};
 ghost use Rattle.worm_region.specs.Prepared.{Prepares};
 
 use crate::region::Region;
@@ -158,7 +157,7 @@ impl Region {
         ensures there { AreThere self.new node result }
         ensures at_node { ReachesAt node self.old self.new }
     {
-        // What holds of each region is told of those between, too, for whoever keeps more of them than this.
+        // `Prepares` tells that the regions between are workable, too.
         self.come_in(node);
         self.recall();
         self.allocate(node);

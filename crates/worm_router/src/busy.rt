@@ -5,7 +5,7 @@ use worm_flit::SmallSet;
 use worm_swalloc::ReadyOuts;
 use worm_vcalloc::ChannelSet;
 
-/// Which input channels have something to do, so that a turn skips all others.
+/// What input channels hold, lack and owe, as sets, so that a turn skips those that can do nothing.
 #[derive(Drop)]
 pub struct BusyChannels {
     /// The output port of each channel that holds an output channel.

@@ -1,7 +1,7 @@
 //! What the channel allocator goes over, kept as it comes.
 
 ghost use Rattle.std.specs.Prelude.{◌≡◌, ◌<◌, ◌≤◌, Some, None, IsTrue, false, true, replicate};
-ghost use Rattle.worm_vcalloc.specs.Table.{IsTable, cell, with_cell};
+ghost use Rattle.worm_vcalloc.specs.Table.{IsTable, with_cell};
 ghost use Rattle.worm_router.specs.Tables.{PutsRow, PutsRows};
 ghost use Rattle.worm_router.specs.Demand.{GrantsNothing};
 
@@ -115,7 +115,7 @@ impl Demand {
         self.grants_nothing = false;
     }
 
-    /// Whether a pass grants nothing: no request is for a free channel. Where none is this may not be known.
+    /// Whether a pass is known to grant nothing: no request is for a free channel. False tells nothing.
     pub fn grants_nothing(&self) -> bool
         ensures { IsTrue result → GrantsNothing self.now.requests self.now.free }
     {

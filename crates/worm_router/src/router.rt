@@ -1,13 +1,11 @@
-ghost use Rattle.std.specs.Prelude.{◌≡◌, ◌==◌, ◌||◌, ◌+◌, ◌*◌, ◌≤◌, ◌<◌, ◌↔◌, length, IfOk, IfErr};
-ghost use Rattle.std.specs.Prelude.{OnOk, OnErr, IsOk, IsErr, IsSome, IfSome, IfNone, None, Some, ℕ, is_some, nat_lt};
-ghost use Rattle.std.specs.Prelude.{◌-◌, ◌&&◌, if◌then◌else◌, is_none};
+ghost use Rattle.std.specs.Prelude.{◌≡◌, ◌≤◌, ◌<◌, ◌↔◌, length, IfOk, IfErr, OnOk, OnErr, IsOk, IsErr, IsSome, IfSome};
+ghost use Rattle.std.specs.Prelude.{IfNone, None, Some, ℕ, is_some, nat_lt, ◌-◌, ◌&&◌, if◌then◌else◌, is_none};
 ghost use Rattle.worm_flit.specs.Channels.{AreChannels, class_bits, owns};
 ghost use Rattle.worm_mesh.specs.Address.{node_count};
 ghost use Rattle.worm_records.specs.declared.InRecord.TheVariants.{Waiting};
-ghost use Rattle.worm_router.specs.Router.{IsPlace, line, fresh_router, input_at};
-ghost use Rattle.worm_router.specs.Router.{output_at, terminal, width, after_accept, can_route, after_route, can_grant};
-ghost use Rattle.worm_router.specs.Router.{after_grant, after_granting, leaving, MayLeave, credit_of, owed_for};
-ghost use Rattle.worm_router.specs.Router.{after_send, after_gave, after_credit};
+ghost use Rattle.worm_router.specs.Router.{IsPlace, fresh_router, input_at, output_at, terminal, width, after_accept};
+ghost use Rattle.worm_router.specs.Router.{can_route, after_route, can_grant, after_grant, after_granting, leaving};
+ghost use Rattle.worm_router.specs.Router.{MayLeave, credit_of, owed_for, after_send, after_gave, after_credit};
 
 mod allocation;
 mod fresh;
@@ -113,17 +111,6 @@ impl Router {
             busy: BusyChannels::new(),
             demand: Demand::new(ports, total),
         })
-    }
-
-    fn line(&self, port: u8, vc: u8) -> usize
-        requires { IsPlace self.now port vc }
-        ensures value { result ≡ line self.now port vc }
-        ensures in_inputs { result < length self.now.inputs }
-        ensures in_outputs { result < length self.now.outputs }
-        ensures few_ports { port < 7 }
-        ensures few_channels { vc < 8 }
-    {
-        usize::from(port) * usize::from(self.classes.total()) + usize::from(vc)
     }
 
     /// The terminal port.
@@ -316,8 +303,8 @@ impl Router {
         Some(self.next_out(port, vc))
     }
 
-    /// The flit that `ready` names has left. A credit is spent, but at the terminal, and one is owed where its input
-    /// port has a link. A closing flit frees both channels.
+    /// The flit that `ready` names has left. A credit is spent, except at the terminal, and one is owed where its
+    /// input port has a link. A closing flit frees both channels.
     #[inline(always)]
     pub fn sent(&mut self, port: u8, vc: u8)
         requires place { IsPlace self.old port vc }
@@ -325,15 +312,6 @@ impl Router {
         ensures { self.new ≡ after_send self.old port vc }
     {
         let (out, flit) = self.next_out(port, vc);
-        self.let_out(port, vc, out, flit);
-    }
-
-    #[inline(always)]
-    fn let_out(&mut self, port: u8, vc: u8, out: u8, flit: Flit)
-        requires place { IsPlace self.old port vc }
-        requires ready { leaving self.old port vc ≡ Some (out, flit) }
-        ensures { self.new ≡ after_send self.old port vc }
-    {
         let i = self.line(port, vc);
         let o = self.line(out, flit.vc);
         let more_owed = self.owed_for(port);
@@ -348,6 +326,7 @@ impl Router {
             .remove_if(port, vc, !channel.is_occupied());
         // Who owed before owes still, so this needs no look at the count.
         self.busy.owing.insert_if(port, vc, more_owed > 0);
+        // `owed` has grown already: there is no room for one more.
         let owes_all = channel.owed() + more_owed > self.depth;
         self.busy.owes_all.insert_if(port, vc, owes_all);
         self.busy.forget_full(fed);

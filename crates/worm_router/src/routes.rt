@@ -2,7 +2,7 @@
 //! each packet and each flit, not worked out.
 
 ghost use Rattle.std.specs.Prelude.{◌≡◌, ℕ, ◌+◌, ◌*◌, ◌%◌, ◌≤◌, ◌<◌, length, is_some, IfOk};
-ghost use Rattle.worm_mesh.specs.Address.{AreRadices, digit_of, neighbour_of, node_count};
+ghost use Rattle.worm_mesh.specs.Address.{digit_of, neighbour_of, node_count};
 ghost use Rattle.worm_route.specs.Route.{port_of};
 ghost use Rattle.worm_router.specs.Routes.{AreLinked, AreRoutes};
 

@@ -1,6 +1,6 @@
 //! The row that a line says.
 
-ghost use Rattle.std.specs.Prelude.{◌≡◌, ◌≤◌, ◌<◌, Ok};
+ghost use Rattle.std.specs.Prelude.{◌≡◌, ◌≤◌};
 ghost use Rattle.worm_mesh.specs.Address.{node_count, has_neighbour};
 ghost use Rattle.worm_text.specs.Reading.{Reads, Gives};
 ghost use Rattle.worm_rows.specs.Rules.{has_buffer, listed};

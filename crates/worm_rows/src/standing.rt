@@ -1,6 +1,6 @@
 //! How far a report has been read: which rows may come next.
 
-ghost use Rattle.std.specs.Prelude.{◌≡◌, ◌≤◌, ◌<◌, ◌+◌, Ok};
+ghost use Rattle.std.specs.Prelude.{◌≡◌, ◌≤◌};
 ghost use Rattle.worm_text.specs.Reading.{Gives};
 ghost use Rattle.worm_rows.specs.Rules.{rank, latest, listed, at_start, behind};
 ghost use Rattle.worm_rows.specs.Reading.{fits_at, admits};

@@ -1,6 +1,6 @@
 //! A worker's ends of the links that it shares with others.
 
-ghost use Rattle.std.specs.Prelude.{◌≡◌, ◌<◌, IfNone, IfSome};
+ghost use Rattle.std.specs.Prelude.{◌≡◌, IfNone, IfSome};
 ghost use Rattle.worm_split.specs.Ends.{leaves_by, enters_by, CreditPopped, FlitPopped, FlitPushed, CreditPushed};
 ghost use Rattle.worm_split.specs.Ends.{MayGo, MayGive};
 

@@ -5,7 +5,6 @@ ghost use Rattle.worm_flit.specs.Channels.{AreChannels, owner_of};
 ghost use Rattle.worm_mesh.specs.Address.{Joins};
 ghost use Rattle.worm_mesh.specs.Links.{link_count};
 ghost use Rattle.worm_theory.specs.Openings.{past_of};
-ghost use Rattle.worm_wires.specs.Links.{empty_link};
 ghost use Rattle.worm_region.specs.State.{network_of, shape};
 ghost use Rattle.worm_region.specs.Parts.{IsConfigOf};
 ghost use Rattle.worm_split.specs.Ends.{AreEndsMade, IsLinkOf};

@@ -12,7 +12,7 @@ use worm_core::{Net, Region};
 
 /// What one worker has of a network that was split.
 pub struct Part {
-    /// The network of its nodes. In the place of each node of another worker stands one that is not looked at.
+    /// The network of its nodes. Fresh ones stand in the places of those of other workers, and are not looked at.
     pub(crate) region: Region,
     /// Its ends by link number.
     pub(crate) ends: Vec<End>,

@@ -1,6 +1,5 @@
 ghost use Rattle.std.specs.Prelude.{◌≡◌, ◌<◌, None, Some, replicate, slice_index_or};
-ghost use Rattle.worm_swalloc.specs.SwAlloc.{AreChannelsBelow, AreRequested, AreGranted};
-ghost use Rattle.worm_swalloc.specs.SwAlloc.{granted_of, sole_named};
+ghost use Rattle.worm_swalloc.specs.SwAlloc.{AreChannelsBelow, AreRequested, AreGranted, granted_of, sole_named};
 
 use std::marker::Model;
 use worm_vcalloc::{ChannelMap, ChannelSet};

@@ -1,4 +1,4 @@
-ghost use Rattle.std.specs.Prelude.{◌≡◌, ◌+◌, ◌≤◌, ◌<◌, [], ◌∷◌, ◌++◌, length, OnOk, OnErr, IsSome, is_some};
+ghost use Rattle.std.specs.Prelude.{◌≡◌, ◌+◌, ◌≤◌, [], ◌∷◌, ◌++◌, length, OnOk, OnErr, IsSome, is_some};
 ghost use Rattle.worm_flit.specs.Packets.{packet_flits};
 ghost use Rattle.worm_term.specs.Queue.{empty_queue, appended, waiting, one_fed};
 

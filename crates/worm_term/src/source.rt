@@ -1,5 +1,5 @@
-ghost use Rattle.std.specs.Prelude.{ℕ, ◌≡◌, ◌+◌, ◌≤◌, ◌<◌, length, IfOk, IfErr, OnOk, OnErr, IsSome, None, Some};
-ghost use Rattle.std.specs.Prelude.{unwrap_or, true, false, replicate, All, option_map};
+ghost use Rattle.std.specs.Prelude.{ℕ, ◌≡◌, ◌≤◌, ◌<◌, length, IfOk, IfErr, OnOk, IsSome, None, Some};
+ghost use Rattle.std.specs.Prelude.{true, false, replicate, All, option_map};
 ghost use Rattle.worm_flit.specs.Channels.{AreChannels, first_channel};
 ghost use Rattle.worm_term.specs.Queue.{empty_queue, waiting};
 ghost use Rattle.worm_flit.specs.Stamps.{of_lane};
@@ -33,8 +33,10 @@ pub struct Source {
     queues: Vec<Queue>,
     /// The lanes by destination, then class.
     lanes: Vec<LaneState>,
-    /// The first channel of each class. A turn mostly reads it and `unfed`, and then what stands after the source.
+    // The last two stand next to the router, which a turn reads after them.
+    /// The first channel of each class.
     firsts: [u8; 4],
+    /// The classes of which a flit was not fed yet.
     unfed: SmallSet,
 }
 

@@ -1,7 +1,6 @@
 //! The text of the traffic, line by line.
 
-ghost use Rattle.std.specs.Prelude.{◌≡◌, ◌≤◌, ◌<◌, ◌-◌, [], ◌==◌, length, position, Some, None};
-ghost use Rattle.std.specs.Prelude.{OnOk, IfOk, IfErr, Ok, ◌⊎◌, List, ◌||◌, All, false};
+ghost use Rattle.std.specs.Prelude.{◌≡◌, ◌≤◌, [], length, position, OnOk, IfOk, IfErr, Ok, ◌⊎◌, List, ◌||◌, All, false};
 ghost use Rattle.worm_mesh.specs.Address.{node_count};
 ghost use Rattle.worm_text.specs.TrafficText.{AreEntries, traffic_text};
 ghost use Rattle.worm_text.specs.ScriptView.{said_of};
@@ -12,9 +11,8 @@ ghost use Rattle.worm_text.specs.Reading.{Reads, Gives};
 ghost use Rattle.worm_text.specs.Network.{view, names_of, Keeps};
 ghost use Rattle.worm_text.specs.declared.format.Format.{Format};
 ghost use Rattle.worm_text.specs.Traffic.{Said, class_at, turn_at, lane_at, words_at, send_at, close_at, entry_at};
-ghost use Rattle.worm_text.specs.Traffic.{entry_view, same_lane, lane_cmp, closes, read_entries};
+ghost use Rattle.worm_text.specs.Traffic.{entry_view, same_lane, lane_cmp, closes, read_entries, traffic_of};
 ghost use Rattle.worm_text.specs.Asked.{said_by};
-ghost use Rattle.worm_text.specs.Traffic.{traffic_of};
 ghost use Rattle.worm_text.specs.TrafficFaults.{AnswersOrFull, RanOut, IsEntryLine, IsEntryPiece, IsTrafficFaultLine};
 ghost use Rattle.worm_text.specs.Lines.{cut, space, newline};
 

@@ -1,5 +1,4 @@
-ghost use Rattle.std.specs.Prelude.{◌≡◌, ℕ, ◌<◌, ◌≤◌, ◌&&◌, ◌||◌, not, nat_lt, replicate};
-ghost use Rattle.std.specs.Prelude.{slice_index_or};
+ghost use Rattle.std.specs.Prelude.{◌≡◌, ℕ, ◌<◌, ◌≤◌, ◌&&◌, ◌||◌, not, nat_lt, replicate, slice_index_or};
 ghost use Rattle.worm_vcalloc.specs.Asked.{AreAllowed, IsFiled};
 ghost use Rattle.worm_vcalloc.specs.ChannelSet.{has};
 

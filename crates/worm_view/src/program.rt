@@ -148,9 +148,9 @@ fn draw_texts<W: Write>(
 
 /// Reads the network and the report to their ends, and writes the picture, the map, or who waits for whom.
 ///
-/// `ReadNetwork` and `ReadReport` where a reader failed or gave over 67,108,864 bytes; `Network` and `Report` where a
-/// text is refused; `NoMemory`. With these nothing was written. `Write` where the writer failed or took nothing: a
-/// first part has then gone out.
+/// `ReadNetwork` and `ReadReport` where a reader failed, gave over 67,108,864 bytes, or came to no end in 10,000,000
+/// reads; `Network` and `Report` where a text is refused; `NoMemory`. With these nothing was written. `Write` where the
+/// writer failed or took nothing: a first part has then gone out.
 pub fn run_view<N: Read, R: Read, W: Write>(
     alloc: Global,
     network: &mut N,

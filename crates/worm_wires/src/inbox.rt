@@ -1,6 +1,6 @@
 //! The inboxes of the nodes: at each mesh port the flit that comes in next, and the credit that comes back next.
 
-ghost use Rattle.std.specs.Prelude.{◌≡◌, ◌<◌, ◌∷◌, ◌++◌, [], ℕ, drop, is_some, length, option_copied, slice_get};
+ghost use Rattle.std.specs.Prelude.{◌≡◌, ◌<◌, ◌∷◌, ◌++◌, [], drop, is_some, length, option_copied, slice_get};
 ghost use Rattle.std.specs.Prelude.{true, Some, false};
 ghost use Rattle.std.specs.VecDeque.{deque_capacity};
 ghost use Rattle.worm_flit.specs.SmallSet.{has};
@@ -116,7 +116,7 @@ impl<T: Copy> Fronts<T> {
         self.more.put(port, true);
     }
 
-    /// Puts one more behind what comes in by the port.
+    /// Puts one more after what comes in by the port.
     pub(crate) fn push_listed(&mut self, here: &SmallSet, port: u8, list: &mut VecDeque<T>, item: T)
         requires port { port < 6 }
         requires way { IsWayOf (tray_of here.now self.old) port list.old.items (deque_capacity list.old) }

@@ -1,7 +1,7 @@
 //! The links of a mesh with what is on them. `_terminal` tells the proof that a mesh has at most three dimensions.
 
-ghost use Rattle.std.specs.Prelude.{◌≡◌, ◌<◌, ◌↔◌, ◌++◌, ◌∷◌, [], ℕ, IsSome, IsTrue};
-ghost use Rattle.std.specs.Prelude.{Option, Some, true, drop, is_some, length, option_copied, slice_get};
+ghost use Rattle.std.specs.Prelude.{◌≡◌, ◌<◌, ◌++◌, ◌∷◌, [], ℕ, IsSome, IsTrue};
+ghost use Rattle.std.specs.Prelude.{Some, true, drop, is_some, length, option_copied, slice_get};
 ghost use Rattle.worm_mesh.specs.Address.{AreRadices, neighbour_of};
 ghost use Rattle.worm_mesh.specs.Links.{link_count};
 ghost use Rattle.worm_wires.specs.Arrivals.{AreFronts, LinksView, credits_of, credits_to, flits_of};

@@ -3,8 +3,7 @@
 ghost use Rattle.std.specs.Prelude.{◌≡◌, ◌<◌, ◌≤◌, ◌*◌, ◌↔◌, ℕ, IfSome, IsSome, Some, length};
 ghost use Rattle.worm_mesh.specs.Address.{AreRadices, neighbour_of, node_count, opposite_of, stride_of};
 ghost use Rattle.worm_mesh.specs.Links.{link_count, links_before};
-ghost use Rattle.worm_wires.specs.Wiring.{AreLinksOf, AreSteps, in_link, into_from, kept_number, out_link};
-ghost use Rattle.worm_wires.specs.Wiring.{port_links};
+ghost use Rattle.worm_wires.specs.Wiring.{AreLinksOf, AreSteps, in_link, into_from, kept_number, out_link, port_links};
 
 use std::marker::Model;
 use worm_mesh::Mesh;
@@ -32,7 +31,7 @@ pub struct NodeLinks {
     pub outs: [u16; 6],
 }
 
-/// A mesh and the links of each node, so that no step searches. It is small, since networks are moved about by value.
+/// A mesh and the links of each node, so that no step searches: 3 KB, since networks are moved by value.
 #[derive(Drop)]
 pub struct Wiring {
     mesh: Mesh,

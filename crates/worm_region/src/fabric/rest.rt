@@ -29,7 +29,7 @@ impl Fabric {
         true
     }
 
-    /// What is found is kept until the node changes. A node that rests may not be found to.
+    /// Whether the node is at rest. False tells nothing. What is found is kept until the node changes.
     pub(crate) fn is_resting(&mut self, node: u8) -> bool
         requires sound { IsWorkable self.old }
         requires node { node < node_count self.old.mesh }

@@ -1,6 +1,6 @@
 //! What enters and leaves a part over links shared with other workers (Dally and Towles, chapter 13).
 
-ghost use Rattle.std.specs.Prelude.{◌≡◌, ◌<◌, ◌↔◌, [], false, IfSome, IsSome, Some, sum};
+ghost use Rattle.std.specs.Prelude.{◌≡◌, ◌<◌, ◌↔◌, [], false, IsSome, Some, sum};
 ghost use Rattle.worm_theory.specs.Steps.{IsThere, Step as Event};
 ghost use Rattle.worm_region.specs.Edges.{ArrivesBy, ComesBackBy, LetsGive, LetsOut};
 ghost use Rattle.worm_region.specs.Moves.{link_into, link_out};

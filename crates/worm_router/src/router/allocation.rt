@@ -60,9 +60,10 @@ impl Router {
         // A pass grants what is asked for and free, and nothing twice, so a grant is written without a test of that.
         while let Some((port, vc)) = left.pop_first() {
             let out_vc = grants.number(port, vc);
-            if let InRecord::Waiting { out } = self.in_record(port, vc) {
-                self.hold(port, vc, out, out_vc);
-            }
+            let InRecord::Waiting { out } = self.in_record(port, vc) else {
+                unreachable!()
+            };
+            self.hold(port, vc, out, out_vc);
         }
         // Whoever asks for a channel that was free was granted one, or another was granted that channel.
         self.demand.set_grants_nothing();

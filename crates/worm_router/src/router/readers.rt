@@ -1,7 +1,7 @@
 //! What of a router can be seen: the sets of its channels, and what stands at a place.
 
-ghost use Rattle.std.specs.Prelude.{◌≡◌, IfSome, IsSome, length, nat_lt, slice_get};
-ghost use Rattle.worm_router.specs.Router.{IsPlace, IsRouter, input_at, leaving, output_at, terminal};
+ghost use Rattle.std.specs.Prelude.{◌≡◌, ◌<◌, length, nat_lt, slice_get};
+ghost use Rattle.worm_router.specs.Router.{IsPlace, IsRouter, input_at, line, output_at, terminal};
 ghost use Rattle.worm_router.specs.Busy.{IsSetOf, OweByLinks, is_active, is_occupied, is_waiting, lacks_route, owes};
 
 use crate::router::Router;
@@ -45,6 +45,17 @@ impl Router {
         ensures links { OweByLinks self.now.mesh self.now.node result }
     {
         self.busy.owing
+    }
+
+    pub(crate) fn line(&self, port: u8, vc: u8) -> usize
+        requires { IsPlace self.now port vc }
+        ensures value { result ≡ line self.now port vc }
+        ensures in_inputs { result < length self.now.inputs }
+        ensures in_outputs { result < length self.now.outputs }
+        ensures few_ports { port < 7 }
+        ensures few_channels { vc < 8 }
+    {
+        usize::from(port) * usize::from(self.classes.total()) + usize::from(vc)
     }
 
     /// The flit at place `i` of an input buffer, counted from the front.

@@ -52,15 +52,15 @@ hold-requires-clause-free c =
     (next_held _ c.grant_waiting.new.self _ given _ _ _ _ _ c.loop-port.invariant c.in-Some.ensures _ _
     (sym c.number-out_vc.ensures) (sym c.in_record.ensures ∙ c.in-Waiting.is)).free
 
-pub loop-port-preserved-in-Waiting : goal.loop-port-preserved-in-Waiting
-loop-port-preserved-in-Waiting c =
+pub loop-port-preserved : goal.loop-port-preserved
+loop-port-preserved c =
     let given = grantable _ _ _ _ _ _ _ c.self.invariant c.requests-requests.ensures c.free-free.ensures
     (c.grant_waiting.ensures.matching c.new-grants.ensures) in
     next_written _ c.grant_waiting.new.self _ given _ _ _ _ _ c.loop-port.invariant c.in-Some.ensures _ _
     (sym c.number-out_vc.ensures) (sym c.in_record.ensures ∙ c.in-Waiting.is) _ c.hold.ensures
 
-pub loop-port-preserved : goal.loop-port-preserved
-loop-port-preserved c =
+pub unreachable-requires : goal.unreachable-requires
+unreachable-requires c =
     let given = grantable _ _ _ _ _ _ _ c.self.invariant c.requests-requests.ensures c.free-free.ensures
     (c.grant_waiting.ensures.matching c.new-grants.ensures) in
     let waits = next_waits _ c.grant_waiting.new.self _ given _ _ _ _ _ c.loop-port.invariant c.in-Some.ensures _

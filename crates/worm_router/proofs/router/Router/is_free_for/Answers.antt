@@ -1,4 +1,4 @@
-use Rattle.std.proofs.Common.{ℕ, ◌≡◌, ◌*◌, ◌&&◌, Bool, true, false, not, Option, Some, None, is_none, is_some}
+use Rattle.std.proofs.Common.{ℕ, ◌≡◌, ◌&&◌, Bool, true, false, not, Option, Some, None, is_none, is_some}
 use Rattle.std.proofs.Common.{ap, refl, ◌∙◌}
 use Rattle.worm_flit.specs.Channels.{owns}
 use Rattle.worm_records.specs.declared.OutRecord.{OutRecord}

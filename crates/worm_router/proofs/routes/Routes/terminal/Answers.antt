@@ -1,4 +1,4 @@
-use Rattle.std.proofs.Common.{◌*◌, List, length, ℕ, arith, ap, ◌∙◌}
+use Rattle.std.proofs.Common.{◌*◌, length, ℕ, arith, ap, ◌∙◌}
 use Rattle.worm_router.specs.Routes.{RoutesView}
 use Rattle.worm_router.proofs.routes.Routes.terminal.Goals as goal
 

@@ -13,8 +13,8 @@ use Rattle.worm_router.proofs.Leaving.{may_leave}
 use Rattle.worm_router.proofs.ChangesSound.{input_read}
 use Rattle.worm_router.proofs.Places.{output_read}
 use Rattle.worm_router.proofs.AfterSending.{IsLeaving, IsOut, leaving_of, left_is, closed_kept, followed_kept}
-use Rattle.worm_router.proofs.router.Router.let_out.Goals.{After-index_mut-output, After-forget_full}
-use Rattle.worm_router.proofs.router.Router.let_out.Goals as goal
+use Rattle.worm_router.proofs.router.Router.sent.Goals.{After-index_mut-output, After-forget_full}
+use Rattle.worm_router.proofs.router.Router.sent.Goals as goal
 
 abbrev was : After-index_mut-output → RouterState
 was c =
@@ -23,14 +23,14 @@ was c =
 
 -- what leaves, as it was read
 leaves : (c : After-index_mut-output)
-    → IsLeaving (was c) c.self.inside.busy c.args.port c.args.vc c.line-i.result c.args.out c.args.flit.vc
+    → IsLeaving (was c) c.self.inside.busy c.args.port c.args.vc c.line-i.result c.next_out-out.result.0 c.next_out-out.result.1.vc
     c.line-o.result c.index_mut-channel.result.now c.index_mut-output.result.now c.credit_of-spent.result
     c.owed_for-more_owed.result
 leaves c =
     leaving_of (was c) c.args.self.now c.self.inside.busy c.self.inside.demand c.self.inside.masks
-    c.args.port c.args.vc c.line-i.result c.args.out c.line-o.result c.args.flit
+    c.args.port c.args.vc c.line-i.result c.next_out-out.result.0 c.line-o.result c.next_out-out.result.1
     c.index_mut-channel.result.now c.index_mut-output.result.now c.credit_of-spent.result
-    c.owed_for-more_owed.result c.self.view_is c.self.invariant c.requires.place c.requires.ready
+    c.owed_for-more_owed.result c.self.view_is c.self.invariant c.requires.place (sym c.next_out-out.ensures.leaves)
     c.line-i.ensures.value c.line-i.ensures.in_inputs c.index_mut-channel.ensures.value
     c.line-o.ensures.value c.line-o.ensures.in_outputs c.index_mut-output.ensures.value c.credit_of-spent.ensures.value
     c.owed_for-more_owed.ensures.value
@@ -39,8 +39,8 @@ leaves c =
 pub line-o-requires : goal.line-o-requires
 line-o-requires c =
     let sound = rw c.self.view_is at c.self.invariant.router in
-    let there = may_leave c.args.self.now c.args.port c.args.vc (c.args.out, c.args.flit) sound c.requires.place
-    c.requires.ready in
+    let there = may_leave c.args.self.now c.args.port c.args.vc (c.next_out-out.result.0, c.next_out-out.result.1) sound c.requires.place
+    (sym c.next_out-out.ensures.leaves) in
     record { port_in = there.out_in; channel_in = there.channel_in }
 
 pub spend-requires-clause-there : goal.spend-requires-clause-there
@@ -49,7 +49,7 @@ spend-requires-clause-there c = (leaves (goal.at.spend-requires-clause-there c).
 pub close-requires : goal.close-requires
 close-requires c =
     let it = leaves (goal.at.close-requires c).After-index_mut-output in
-    (c.args.out, c.args.flit.vc, ap (λ (k : ChannelState). k.state) c.let_out.ensures ∙ it.held_it)
+    (c.next_out-out.result.0, c.next_out-out.result.1.vc, ap (λ (k : ChannelState). k.state) c.let_out.ensures ∙ it.held_it)
 
 pub release-requires : goal.release-requires
 release-requires c =
@@ -61,12 +61,12 @@ out : (c : After-forget_full)
     → IsLeaving (router_state c.self.inside.routes.mesh c.self.inside.routes.node c.self.inside.classes
     c.self.inside.depth
     c.self.inside.inputs.items c.self.inside.outputs.items c.self.inside.channel_alloc c.self.inside.switch_alloc)
-    c.self.inside.busy c.args.port c.args.vc c.line-i.result c.args.out c.args.flit.vc c.line-o.result
+    c.self.inside.busy c.args.port c.args.vc c.line-i.result c.next_out-out.result.0 c.next_out-out.result.1.vc c.line-o.result
     c.index_mut-channel.result.now c.index_mut-output.result.now c.credit_of-spent.result c.owed_for-more_owed.result
     → IsOut (router_state c.self.inside.routes.mesh c.self.inside.routes.node c.self.inside.classes c.self.inside.depth
     c.self.inside.inputs.items c.self.inside.outputs.items c.self.inside.channel_alloc c.self.inside.switch_alloc)
     c.self.inside.busy c.forget_full.new.self c.args.port c.args.vc
-    c.index_mut-channel.result.now c.let_out.new.self c.args.flit c.owed_for-more_owed.result
+    c.index_mut-channel.result.now c.let_out.new.self c.next_out-out.result.1 c.owed_for-more_owed.result
 out c it =
     let sets = c.self.inside.busy in
     let gone = c.let_out.new.self in
@@ -83,7 +83,7 @@ out c it =
     subst (λ (mid : BusyChannels). IsOut (router_state c.self.inside.routes.mesh c.self.inside.routes.node
     c.self.inside.classes c.self.inside.depth c.self.inside.inputs.items c.self.inside.outputs.items
     c.self.inside.channel_alloc c.self.inside.switch_alloc) c.self.inside.busy mid
-    c.args.port c.args.vc c.index_mut-channel.result.now c.let_out.new.self c.args.flit c.owed_for-more_owed.result)
+    c.args.port c.args.vc c.index_mut-channel.result.now c.let_out.new.self c.next_out-out.result.1 c.owed_for-more_owed.result)
     (sym c.forget_full.ensures) (record {
       gone_is = c.let_out.ensures;
       occupied = subst (IsFiled _ _ _ _) occupied (filed _ _ _ _ _ c.remove_if.ensures);
@@ -118,17 +118,17 @@ here c =
     c.self.view_is c.index_mut-channel.ensures.value c.line-i.ensures.value c.line-i.ensures.in_inputs
 
 there : (c : After-index_mut-output)
-    → c.index_mut-output.result.now ≡ output_at c.args.self.now c.args.out c.args.flit.vc
+    → c.index_mut-output.result.now ≡ output_at c.args.self.now c.next_out-out.result.0 c.next_out-out.result.1.vc
 there c =
-    output_read (was c) c.args.self.now c.args.out c.args.flit.vc c.line-o.result c.index_mut-output.result.now
+    output_read (was c) c.args.self.now c.next_out-out.result.0 c.next_out-out.result.1.vc c.line-o.result c.index_mut-output.result.now
     c.self.view_is c.index_mut-output.ensures.value c.line-o.ensures.value c.line-o.ensures.in_outputs
 
 pub returns-then-is_closing : goal.returns-then-is_closing
 returns-then-is_closing c =
     let at = (goal.at.returns-then-is_closing c).After-index_mut-output in
-    left_is (was at) c.args.self.now c.args.port c.args.vc c.line-i.result c.args.out c.line-o.result c.args.flit
+    left_is (was at) c.args.self.now c.args.port c.args.vc c.line-i.result c.next_out-out.result.0 c.line-o.result c.next_out-out.result.1
     c.index_mut-channel.result.now c.close.new.self c.index_mut-output.result.now c.release.new.self
-    c.credit_of-spent.result c.owed_for-more_owed.result true c.self.view_is c.requires.ready
+    c.credit_of-spent.result c.owed_for-more_owed.result true c.self.view_is (sym c.next_out-out.ensures.leaves)
     (sym c.is_closing.ensures ∙ c.if-is_closing.true) c.line-i.ensures.value c.line-o.ensures.value (here at) (there at)
     c.credit_of-spent.ensures.value c.owed_for-more_owed.ensures.value
     (c.close.ensures ∙ ap (λ (k : ChannelState). in_state k Idle) c.let_out.ensures)
@@ -137,9 +137,9 @@ returns-then-is_closing c =
 pub returns-else-is_closing : goal.returns-else-is_closing
 returns-else-is_closing c =
     let at = (goal.at.returns-else-is_closing c).After-index_mut-output in
-    left_is (was at) c.args.self.now c.args.port c.args.vc c.line-i.result c.args.out c.line-o.result c.args.flit
+    left_is (was at) c.args.self.now c.args.port c.args.vc c.line-i.result c.next_out-out.result.0 c.line-o.result c.next_out-out.result.1
     c.index_mut-channel.result.now c.let_out.new.self c.index_mut-output.result.now c.spend.new.output
-    c.credit_of-spent.result c.owed_for-more_owed.result false c.self.view_is c.requires.ready
+    c.credit_of-spent.result c.owed_for-more_owed.result false c.self.view_is (sym c.next_out-out.ensures.leaves)
     (sym c.is_closing.ensures ∙ c.if-is_closing.false) c.line-i.ensures.value c.line-o.ensures.value (here at)
     (there at)
     c.credit_of-spent.ensures.value c.owed_for-more_owed.ensures.value c.let_out.ensures c.spend.ensures
