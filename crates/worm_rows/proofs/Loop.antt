@@ -1,10 +1,9 @@
 -- The reader's loop.
-use Rattle.std.proofs.Common.{◌≡◌, lit≤, ℕ, suc, ◌+◌, ◌<◌, ◌≤◌, List, [], ◌∷◌, ◌++◌, length, map, Result, Ok, Err, refl}
+use Rattle.std.proofs.Common.{◌≡◌, lit≤, ℕ, suc, ◌+◌, ◌<◌, ◌≤◌, List, [], ◌∷◌, ◌++◌, length, map, Err, refl}
 use Rattle.std.proofs.Common.{sym, ap, subst, ◌∙◌, append_assoc, arith, add-one}
-use Rattle.std.proofs.lemmas.List.{append-nil, length_push, map_push}
+use Rattle.std.proofs.lemmas.List.{length_push, map_push}
 use Rattle.std.specs.List.{join_with_byte}
 use Rattle.worm_text.specs.declared.fault.Why.{Why}
-use Rattle.worm_text.specs.declared.fault.TextFault.{TextFault}
 use Rattle.worm_text.specs.Lines.{cut, newline}
 use Rattle.worm_text.specs.Reader.{at_line}
 use Rattle.worm_text.proofs.Binds.{fine, fault}
@@ -13,7 +12,7 @@ use Rattle.worm_text.proofs.ReadLines.{some_piece}
 use Rattle.worm_rows.specs.declared.shape.Shape.{Shape}
 use Rattle.worm_rows.specs.declared.standing.Standing.{Standing}
 use Rattle.worm_rows.specs.declared.rows.Row.{Row}
-use Rattle.worm_rows.specs.Rows.{row_line, rows_text}
+use Rattle.worm_rows.specs.Rows.{row_line}
 use Rattle.worm_rows.specs.Rules.{Follow, listed, behind, standing, at_start}
 use Rattle.worm_rows.specs.Reading.{judge}
 use Rattle.worm_rows.specs.Report.{at_end, read, report_of, BeginsReport}

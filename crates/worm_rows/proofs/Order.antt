@@ -1,13 +1,11 @@
 -- Which rows a reader admits, and where a report then stands.
-use Rattle.std.proofs.Common.{◌≡◌, lit<, lit≤, ℕ, suc, ◌+◌, ◌<◌, ◌≤◌, Bool, true, false, ◌&&◌, cond, eqb, leb, ltb}
-use Rattle.std.proofs.Common.{List, [], ◌∷◌, ◌++◌, length, Result, Ok, Err, refl, sym, ap, subst, ◌∙◌, arith, inl, inr}
+use Rattle.std.proofs.Common.{◌≡◌, lit≤, ℕ, ◌+◌, ◌<◌, ◌≤◌, true, ◌&&◌, eqb, leb, ltb}
+use Rattle.std.proofs.Common.{List, refl, subst, arith}
 use Rattle.std.proofs.lemmas.Bool.Decides.{nat_tests}
-use Rattle.worm_text.specs.declared.fault.Why.{Why}
 use Rattle.worm_text.specs.declared.fault.Why.TheVariants.{Range, Repeated, Missing, TooMany, AfterEnd}
-use Rattle.worm_text.specs.Lines.{cut, line, space}
-use Rattle.worm_text.specs.Reading.{◌>>=◌, checked}
+use Rattle.worm_text.specs.Lines.{cut, space}
 use Rattle.worm_text.proofs.Names.{and_true}
-use Rattle.worm_text.proofs.Binds.{fine, fault, ok_is, bind_ok, checked_ok}
+use Rattle.worm_text.proofs.Binds.{fine, ok_is, bind_ok, checked_ok}
 use Rattle.worm_text.proofs.Followed.{line_is}
 use Rattle.worm_rows.specs.declared.shape.Shape.{Shape}
 use Rattle.worm_rows.specs.declared.standing.Standing.{Standing}

@@ -1,5 +1,5 @@
 -- Packets, places and loads: what is read was spelled so, and what is spelled so is read.
-use Rattle.std.proofs.Common.{◌≡◌, lit≤, ℕ, ◌+◌, ◌*◌, ◌<◌, ◌≤◌, true, List, [], ◌∷◌, length, Result, Ok, Err, refl, sym}
+use Rattle.std.proofs.Common.{◌≡◌, lit≤, ℕ, ◌<◌, ◌≤◌, List, [], ◌∷◌, Result, Ok, refl}
 use Rattle.std.proofs.Common.{ap, subst, ◌∙◌, arith, inl, inr}
 use Rattle.std.specs.Prelude.{codes}
 use Rattle.std.specs.Fmt.{decimal}
@@ -8,15 +8,15 @@ use Rattle.worm_core.specs.declared.view.Place.{Place}
 use Rattle.worm_core.specs.declared.view.Place.TheVariants.{Source, Buffer, Link}
 use Rattle.worm_text.specs.declared.fault.Why.{Why}
 use Rattle.worm_text.specs.declared.fault.Why.TheVariants.{Range, UnknownWord}
-use Rattle.worm_text.specs.Reading.{◌>>=◌, checked, no_more, word_at}
+use Rattle.worm_text.specs.Reading.{◌>>=◌, no_more}
 use Rattle.worm_text.proofs.Binds.{fine, fault, ok_is}
 use Rattle.worm_rows.specs.declared.shape.Shape.{Shape}
 use Rattle.worm_rows.specs.declared.rows.PacketId.{PacketId}
 use Rattle.worm_rows.specs.declared.rows.Load.{Load}
 use Rattle.worm_rows.specs.declared.rows.Load.TheVariants.{Close, Word}
 use Rattle.worm_rows.specs.Rows.{spot_fields, place_fields, load_fields, packet_fields}
-use Rattle.worm_rows.specs.Rules.{IsWord, IsPacket, IsLoad, HasPlace, has_buffer}
-use Rattle.worm_rows.specs.Reading.{below_at, named_at, packet_id, packet_at, buffer_at, link_at, place_at}
+use Rattle.worm_rows.specs.Rules.{IsWord, IsLoad, HasPlace, has_buffer}
+use Rattle.worm_rows.specs.Reading.{packet_id, packet_at, buffer_at, link_at, place_at}
 use Rattle.worm_rows.specs.Reading.{load_word_at, load_at}
 use Rattle.worm_rows.proofs.StepsTake.{first_word, took_word, took_below, took_named, took_all, took_test, below_again}
 use Rattle.worm_rows.proofs.StepsTake.{named_again}

@@ -11,7 +11,7 @@ use Rattle.std.proofs.lemmas.List.Sums.{fold-append}
 use Rattle.worm_text.specs.declared.fault.Why.{Why}
 use Rattle.worm_text.specs.declared.fault.Why.TheVariants.{NoEnd, AfterEnd}
 use Rattle.worm_text.specs.declared.fault.TextFault.{TextFault}
-use Rattle.worm_text.specs.Lines.{cut, newline, finished}
+use Rattle.worm_text.specs.Lines.{cut, newline}
 use Rattle.worm_text.specs.Reader.{at_line, AreLines}
 use Rattle.worm_text.proofs.Binds.{fine, fault}
 use Rattle.worm_text.proofs.Cuts.{IsFrom-line, line_from, cut-finished, bytes_are}
@@ -20,14 +20,14 @@ use Rattle.worm_text.proofs.ReadLines.{some_piece}
 use Rattle.worm_rows.specs.declared.shape.Shape.{Shape}
 use Rattle.worm_rows.specs.declared.standing.Standing.{Standing}
 use Rattle.worm_rows.specs.declared.rows.Row.{Row}
-use Rattle.worm_rows.specs.declared.rows.Row.TheVariants.{Header, Options, Stopped, Delivered, Underway, NotOffered}
+use Rattle.worm_rows.specs.declared.rows.Row.TheVariants.{Header, Options, NotOffered}
 use Rattle.worm_rows.specs.declared.rows.Row.TheVariants.{Total}
 use Rattle.worm_rows.specs.Rows.{row_fields, row_line, rows_text}
-use Rattle.worm_rows.specs.Rules.{IsRow, MayFollow, Follow, IsReport, rank, latest, listed, behind, standing, at_start}
+use Rattle.worm_rows.specs.Rules.{IsRow, MayFollow, Follow, IsReport, latest, behind, standing, at_start}
 use Rattle.worm_rows.specs.Reading.{judge}
 use Rattle.worm_rows.specs.Report.{at_end, read, report_of, BeginsReport, IsReportFaultLine, RanOut, AnswersOrFull}
 use Rattle.worm_rows.proofs.RowLaws.{plain_row}
-use Rattle.worm_rows.proofs.Order.{IsNext, IsSound, judge_takes, judge_again, goes_on}
+use Rattle.worm_rows.proofs.Order.{IsSound, judge_takes, judge_again, goes_on}
 
 abbrev pub Answer : Type 0
 Answer = Result (List Row) TextFault

@@ -1,5 +1,5 @@
 -- Rows: what is read was spelled so, and what is spelled so is read.
-use Rattle.std.proofs.Common.{◌≡◌, lit<, lit≤, ℕ, ◌+◌, ◌<◌, ◌≤◌, ◌^◌, true, eqb, List, [], ◌∷◌, length, Result, Ok, Err}
+use Rattle.std.proofs.Common.{◌≡◌, lit<, lit≤, ℕ, ◌+◌, ◌<◌, ◌≤◌, true, eqb, List, [], ◌∷◌, Result, Ok}
 use Rattle.std.proofs.Common.{refl, sym, ap, subst, ◌∙◌, arith, inl, inr}
 use Rattle.std.specs.Prelude.{codes}
 use Rattle.std.specs.Fmt.{decimal}
@@ -9,10 +9,10 @@ use Rattle.worm_core.specs.declared.view.Place.{Place}
 use Rattle.worm_core.specs.declared.view.Place.TheVariants.{Source, Buffer, Link}
 use Rattle.worm_text.specs.declared.fault.Why.{Why}
 use Rattle.worm_text.specs.declared.fault.Why.TheVariants.{Range, UnknownWord}
-use Rattle.worm_text.specs.Lines.{cut, line, space}
-use Rattle.worm_text.specs.Reading.{◌>>=◌, checked, no_more, number_at, word_at}
+use Rattle.worm_text.specs.Lines.{cut, space}
+use Rattle.worm_text.specs.Reading.{◌>>=◌, no_more, number_at}
 use Rattle.worm_text.proofs.Binds.{fine, fault, ok_is, bind_ok}
-use Rattle.worm_text.proofs.Cuts.{IsFrom, IsPlain, ArePlain, IsFrom-line, cut-line}
+use Rattle.worm_text.proofs.Cuts.{IsPlain, ArePlain, cut-line}
 use Rattle.worm_text.proofs.FieldLaws.{number_at_takes, number_at_again}
 use Rattle.worm_text.proofs.Again.{plain-decimal}
 use Rattle.worm_rows.specs.declared.shape.Shape.{Shape}
@@ -22,9 +22,9 @@ use Rattle.worm_rows.specs.declared.rows.Load.TheVariants.{Close, Word}
 use Rattle.worm_rows.specs.declared.rows.Row.{Row}
 use Rattle.worm_rows.specs.declared.rows.Row.TheVariants.{Header, Options, Stopped, Delivered, Underway, NotOffered}
 use Rattle.worm_rows.specs.declared.rows.Row.TheVariants.{Total}
-use Rattle.worm_rows.specs.Rows.{spot_fields, place_fields, load_fields, packet_fields, row_fields, row_line}
+use Rattle.worm_rows.specs.Rows.{place_fields, load_fields, packet_fields, row_fields, row_line}
 use Rattle.worm_rows.specs.Rules.{IsWord, IsPacket, IsLoad, HasPlace, IsRow}
-use Rattle.worm_rows.specs.Reading.{any_at, below_at, named_at, packet_at, place_at, load_at, header_at, options_at}
+use Rattle.worm_rows.specs.Reading.{packet_at, place_at, load_at, header_at, options_at}
 use Rattle.worm_rows.specs.Reading.{stopped_at, delivered_at, underway_at, not_offered_at, total_at, row_at}
 use Rattle.worm_rows.proofs.StepsTake.{first_word, took_word, took_any, took_below, took_named, took_all, took_test}
 use Rattle.worm_rows.proofs.StepsTake.{any_again, below_again, named_again}

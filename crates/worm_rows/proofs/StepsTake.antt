@@ -1,13 +1,13 @@
 -- What a step that did not fail has taken of the fields, and that what is spelled so is taken.
-use Rattle.std.proofs.Common.{◌≡◌, lit<, ℕ, suc, ◌<◌, ◌≤◌, ◌^◌, Bool, true, false, cond, ltb, List, [], ◌∷◌, Result, Ok}
-use Rattle.std.proofs.Common.{Err, refl, ap, ◌∙◌, arith, inl, inr, ◌⊎◌}
+use Rattle.std.proofs.Common.{◌≡◌, lit<, ℕ, ◌<◌, ◌≤◌, Bool, true, false, cond, ltb, List, [], ◌∷◌, Result}
+use Rattle.std.proofs.Common.{refl, ap, ◌∙◌, arith, inl, inr, ◌⊎◌}
 use Rattle.std.specs.Fmt.{decimal}
 use Rattle.std.specs.Str.{bytes_eq}
 use Rattle.std.proofs.lemmas.Bool.Decides.{nat_tests}
 use Rattle.worm_text.specs.declared.fault.Why.{Why}
 use Rattle.worm_text.specs.declared.fault.Why.TheVariants.{Range}
-use Rattle.worm_text.specs.Reading.{◌>>=◌, checked, number_at, word_at, no_more}
-use Rattle.worm_text.proofs.Binds.{fine, bind_ok, checked_ok, no_more_ok}
+use Rattle.worm_text.specs.Reading.{◌>>=◌, checked, word_at, no_more}
+use Rattle.worm_text.proofs.Binds.{fine, bind_ok, checked_ok}
 use Rattle.worm_text.proofs.FieldLaws.{same_bytes, chosen, word_at_takes, word_at_again, number_at_takes}
 use Rattle.worm_text.proofs.FieldLaws.{number_at_again}
 use Rattle.worm_rows.specs.Rules.{IsWord}

@@ -1,9 +1,8 @@
 -- What each line of a report has to be, behind the rows before it.
-use Rattle.std.specs.Prelude.{ℕ, ◌+◌, ◌*◌, ◌&&◌, Bool, List, [], ◌∷◌, length, Result, Ok, Err, nat_le, nat_lt, ◌==◌}
+use Rattle.std.specs.Prelude.{ℕ, ◌+◌, ◌&&◌, List, [], ◌∷◌, Result, Ok, Err, nat_le, nat_lt, ◌==◌}
 use Rattle.std.specs.Prelude.{if◌then◌else◌, codes}
 use Rattle.std.specs.Str.{bytes_eq}
 use Rattle.worm_mesh.specs.Address.{node_count, has_neighbour}
-use Rattle.worm_flit.specs.declared.Lane.{Lane}
 use Rattle.worm_core.specs.declared.view.Place.{Place}
 use Rattle.worm_core.specs.declared.view.Place.TheVariants.{Source, Buffer, Link}
 use Rattle.worm_text.specs.declared.fault.Why.{Why}

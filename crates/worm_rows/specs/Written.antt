@@ -1,11 +1,17 @@
 -- The rows of a report as it is written (`worm_report`), and what is read of them.
-use Rattle.std.specs.Prelude.{ℕ, ◌-◌, ◌≤◌, List}
+use Rattle.std.specs.Prelude.{ℕ, ◌-◌, ◌≤◌, ◌≡◌, ◌⊎◌, List, map, Result, Ok, IfOk, IfErr}
 use Rattle.std.specs.List.{AllByRecursion}
 use Rattle.worm_flit.specs.declared.Flit.{Flit}
 use Rattle.worm_flit.specs.declared.Kind.{Kind}
 use Rattle.worm_flit.specs.declared.Kind.TheVariants as k
 use Rattle.worm_report.specs.declared.row.Row as written
+use Rattle.worm_report.specs.Rows as printing
+use Rattle.worm_text.specs.declared.fault.TextFault.{TextFault}
 use Rattle.worm_report.specs.declared.row.Row.TheVariants as w
+use Rattle.worm_rows.specs.declared.shape.Shape.{Shape}
+use Rattle.worm_rows.specs.Report.{AnswersOrFull, IsReportFaultLine, RanOut, report_of}
+use Rattle.worm_rows.specs.Rows.{rows_text}
+use Rattle.worm_rows.specs.Rules.{IsReport}
 use Rattle.worm_rows.specs.declared.rows.PacketId.{PacketId}
 use Rattle.worm_rows.specs.declared.rows.Load.{Load}
 use Rattle.worm_rows.specs.declared.rows.Load.TheVariants.{Close, Word}
@@ -39,3 +45,16 @@ IsSummed _ = Unit {0}
 
 abbrev pub AreSummed : List written.Row → Type 0
 AreSummed rows = AllByRecursion IsSummed rows
+
+-- what reading a text as a report answers
+pub record ReadsReport {X : Type 0} (items : X → List Row) (s : Shape) (text : List ℕ) (result : Result X TextFault)
+    : Type 0 where
+  pub found : IfOk result (λ rows. IsReport s (items rows) × (text ≡ rows_text (items rows)))
+  pub only : (rows : List Row) → IsReport s rows → text ≡ rows_text rows
+      → AnswersOrFull items (RanOut s text) result (Ok rows)
+  -- The text that `worm_report` writes of a report is read, unless memory runs out.
+  pub written : (rows : List written.Row) → AreSummed rows → IsReport s (map row_of rows)
+      → text ≡ printing.rows_text rows → AnswersOrFull items (RanOut s text) result (Ok (map row_of rows))
+  -- A fault's line is one more than the longest run of finished lines with which some report begins.
+  pub line : IfErr result (λ fault. RanOut s text fault ⊎ IsReportFaultLine s text fault.line)
+  pub exact : AnswersOrFull items (RanOut s text) result (report_of s text)

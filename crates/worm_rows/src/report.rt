@@ -1,13 +1,7 @@
 //! The text of a report, line by line.
 
-ghost use Rattle.std.specs.Prelude.{◌≡◌, ◌⊎◌, List, map, Ok, IfOk, IfErr};
-ghost use Rattle.worm_rows.specs.declared.rows.Row.{Row};
-ghost use Rattle.worm_rows.specs.Rows.{rows_text};
-ghost use Rattle.worm_rows.specs.Rules.{IsReport};
-ghost use Rattle.worm_report.specs.declared.row.Row as printed;
-ghost use Rattle.worm_report.specs.Rows as printing;
-ghost use Rattle.worm_rows.specs.Written.{row_of, AreSummed};
-ghost use Rattle.worm_rows.specs.Report.{report_of, AnswersOrFull, RanOut, IsReportFaultLine};
+ghost use Rattle.worm_rows.specs.Report.{report_of, AnswersOrFull, RanOut};
+ghost use Rattle.worm_rows.specs.Written.{ReadsReport};
 
 use crate::lines::judge;
 use crate::rows::Row;
@@ -56,17 +50,7 @@ fn read_rows(alloc: Global, bytes: &[u8], shape: &Shape) -> Result<Vec<Row>, Tex
 /// Reads the text of a report of a network of this shape. `Range` also for a place that the network does not have,
 /// and for sums that are not those of the rows. `NoMemory` at the line of a row for which there is no room.
 pub fn read_report(alloc: Global, bytes: &[u8], shape: &Shape) -> Result<Vec<Row>, TextFault>
-    ensures found { IfOk result (λ rows. IsReport shape.now rows.items × (bytes.now ≡ rows_text rows.items)) }
-    ensures only { (rows : List Row) → IsReport shape.now rows → bytes.now ≡ rows_text rows
-        → AnswersOrFull (λ v. v.items) (RanOut shape.now bytes.now) result (Ok rows) }
-    // The text that `worm_report` writes of a report is read, unless memory runs out.
-    ensures written { (rows : List printed.Row) → AreSummed rows → IsReport shape.now (map row_of rows)
-        → bytes.now ≡ printing.rows_text rows
-        → AnswersOrFull (λ v. v.items) (RanOut shape.now bytes.now) result (Ok (map row_of rows)) }
-    // A fault's line is one more than the longest run of finished lines with which some report begins.
-    ensures line { IfErr result (λ fault. RanOut shape.now bytes.now fault
-        ⊎ IsReportFaultLine shape.now bytes.now fault.line) }
-    ensures exact { AnswersOrFull (λ v. v.items) (RanOut shape.now bytes.now) result (report_of shape.now bytes.now) }
+    ensures { ReadsReport (λ v. v.items) shape.now bytes.now result }
 {
     read_rows(alloc, bytes, shape)
 }

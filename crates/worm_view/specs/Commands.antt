@@ -1,8 +1,9 @@
 -- What the words `NETWORK [--text | --waits]` of the command line say, as `clap` reads them.
-use Rattle.std.specs.Prelude.{◌≡◌, Bool, false, true, List, [], ◌∷◌, Option, Some, None, codes}
+use Rattle.std.specs.Prelude.{◌≡◌, ◌⊎◌, Bool, false, true, List, [], ◌∷◌, Option, Some, None, codes}
 use Rattle.std.specs.Option.{option_map_or}
 use Rattle.std.specs.Str.{bytes_eq}
-use Rattle.clap.specs.Words.{App, IsAmong, Kinds, Row, Rule, Text, first_of, kind_of, new_app, new_rule, one_of}
+use Rattle.clap.specs.Words.{App, IsAmong, Kinds, Row, Rule, Text, fault_of, first_of, kind_of, matches_of, new_app}
+use Rattle.clap.specs.Words.{new_rule, one_of, takes}
 use Rattle.clap.specs.Simple.{new_shape}
 use Rattle.clap.specs.declared.builder.action.ArgAction.TheVariants.{Set, SetTrue}
 use Rattle.worm_view.specs.declared.form.Form.{Form}
@@ -67,3 +68,12 @@ IsRefused kinds rows (w.Words error) = IsAmong (kind_of error) kinds
 IsRefused kinds rows w.Both = (kinds ≡ []) × AskBoth rows
 IsRefused kinds rows w.NotText = ⊥
 IsRefused kinds rows w.NoMemory = Unit {0}
+
+-- these words are refused so
+abbrev pub IsRefusal : List Text → WordsFault → Type 0
+IsRefusal words = IsRefused (fault_of command words) (matches_of command words)
+
+-- Words that the parser takes whole are refused for want of memory alone, or since they ask for two forms.
+abbrev pub RefusesTaken : List Text → WordsFault → Type 0
+RefusesTaken words fault =
+    takes command words ≡ true → (fault ≡ w.NoMemory) ⊎ ((fault ≡ w.Both) × AskBoth (matches_of command words))

@@ -1,5 +1,5 @@
 -- What the program makes of two texts: a drawing of the report, or the fault that comes first.
-use Rattle.std.specs.Prelude.{ℕ, ◌≡◌, ◌⊎◌, List, ◌++◌, Option}
+use Rattle.std.specs.Prelude.{ℕ, ◌≡◌, ◌⊎◌, List, ◌++◌, Option, Result, IfErr, OnOk}
 use Rattle.std.specs.Io.KnownBytes.{Keeps, Appends}
 use Rattle.worm_text.specs.Network.{Network}
 use Rattle.worm_rows.specs.declared.shape.Shape.{Shape}
@@ -128,3 +128,8 @@ FailsToDraw form first second out f.NoMemory =
     ⊎ FailsBoth (λ network report. FailsTexts form network report out f.NoMemory) first second
 FailsToDraw form first second out f.Write =
     FailsBoth (λ network report. FailsTexts form network report out f.Write) first second
+
+-- what a run answers, and what it reads and writes for that
+pub record RunsView (form : Form) (first second out : Stream) (result : Result (Unit {0}) ViewFault) : Type 0 where
+  pub ok : OnOk result (Draws form first second out)
+  pub err : IfErr result (FailsToDraw form first second out)

@@ -5,7 +5,7 @@ ghost use Rattle.std.specs.Io.KnownBytes.{Appends};
 ghost use Rattle.worm_flit.specs.Channels.{AreChannels};
 ghost use Rattle.worm_text.specs.Network.{view};
 ghost use Rattle.worm_view.specs.Views.{IsAccepted, IsRefused};
-ghost use Rattle.worm_view.specs.Programs.{Draws, DrawsTexts, FailsTexts, FailsToDraw, GaveBoth, IsDrawn, ReadsNot};
+ghost use Rattle.worm_view.specs.Programs.{DrawsTexts, FailsTexts, GaveBoth, IsDrawn, ReadsNot, RunsView};
 ghost use Rattle.worm_view.specs.Programs.{WritesPart, stream};
 ghost use Rattle.worm_view.specs.declared.fault.ViewFault.TheVariants.{Write};
 
@@ -158,14 +158,9 @@ pub fn run_view<N: Read, R: Read, W: Write>(
     form: Form,
     out: &mut W,
 ) -> Result<(), ViewFault>
-    ensures ok { OnOk result
-        (Draws form (stream (N.remaining network.old) (N.remaining network.new))
+    ensures { RunsView form (stream (N.remaining network.old) (N.remaining network.new))
         (stream (R.remaining report.old) (R.remaining report.new))
-        (stream (W.contents out.old) (W.contents out.new))) }
-    ensures err { IfErr result
-        (FailsToDraw form (stream (N.remaining network.old) (N.remaining network.new))
-        (stream (R.remaining report.old) (R.remaining report.new))
-        (stream (W.contents out.old) (W.contents out.new))) }
+        (stream (W.contents out.old) (W.contents out.new)) result }
 {
     let texts = read_both(alloc, network, report)?;
     let network = texts.network.as_slice();

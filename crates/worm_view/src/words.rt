@@ -1,11 +1,11 @@
 //! The words of the command line.
 
-ghost use Rattle.clap.specs.Words.{app_of, fault_of, first_of, found_of, kind_of, matches_of, rows_of, rule_of, takes};
+ghost use Rattle.clap.specs.Words.{app_of, fault_of, first_of, found_of, kind_of, matches_of, rows_of, rule_of};
 ghost use Rattle.clap.specs.Walk.{texts};
 ghost use Rattle.std.specs.IoError.{error_kind};
-ghost use Rattle.std.specs.Prelude.{◌≡◌, ◌⊎◌, [], codes, true, false, IfOk, IfErr, IsSome, OnOk};
+ghost use Rattle.std.specs.Prelude.{◌≡◌, [], codes, false, IfOk, IfErr, IsSome, OnOk};
 ghost use Rattle.worm_view.specs.Commands.{command, described, is_set, network_word, text_word, waits_word};
-ghost use Rattle.worm_view.specs.Commands.{AskBoth, IsRefused, Say};
+ghost use Rattle.worm_view.specs.Commands.{AskBoth, IsRefusal, RefusesTaken, Say};
 ghost use Rattle.worm_view.specs.Faults.{list_fault, parser_fault, IsNoCommand, IsNoList};
 
 use crate::form::{Form, form_of};
@@ -157,10 +157,8 @@ pub fn read_words<'a>(alloc: Global, words: &'a [&'a str]) -> Result<Words<'a>, 
     ensures said { IfOk result (Say (matches_of command (texts words.now))) }
     ensures faultless { OnOk result (fault_of command (texts words.now) ≡ []) }
     ensures err { IfErr result IsNoCommand }
-    ensures refused { IfErr result
-        (IsRefused (fault_of command (texts words.now)) (matches_of command (texts words.now))) }
-    ensures taken { IfErr result (λ fault. takes command (texts words.now) ≡ true → (fault ≡ WordsFault.NoMemory)
-        ⊎ ((fault ≡ WordsFault.Both) × AskBoth (matches_of command (texts words.now)))) }
+    ensures refused { IfErr result (IsRefusal (texts words.now)) }
+    ensures taken { IfErr result (RefusesTaken (texts words.now)) }
 {
     let matches = command(alloc)?.try_get_matches_from(words)?;
     words_in(&matches)

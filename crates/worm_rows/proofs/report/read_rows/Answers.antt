@@ -2,7 +2,7 @@ use Rattle.std.proofs.Common.{◌≡◌, List, [], ◌∷◌, ◌++◌, ◌+◌,
 use Rattle.std.specs.Prelude.{not, is_ok}
 use Rattle.worm_rows.specs.declared.rows.Row.{Row}
 use Rattle.worm_rows.specs.Rules.{behind}
-use Rattle.worm_rows.proofs.Loop.{SoFar, one_more, ill, begun_well}
+use Rattle.worm_rows.proofs.Loop.{one_more, ill, begun_well}
 use Rattle.worm_rows.proofs.report.read_rows.Goals as goal
 
 -- where a push did not fail

@@ -1,5 +1,5 @@
-use Rattle.std.proofs.Common.{◌≡◌, ◌*◌, ℕ, List, [], ◌∷◌, length, fold, sym, subst, ◌∙◌, arith, inl, inr}
-use Rattle.worm_mesh.specs.Address.{node_count, AreRadices}
+use Rattle.std.proofs.Common.{ℕ, List, subst, arith, inl, inr}
+use Rattle.worm_mesh.specs.Address.{AreRadices}
 use Rattle.worm_mesh.specs.Faults.{IsFault}
 use Rattle.worm_mesh.specs.declared.mesh.MeshFault.{MeshFault}
 use Rattle.worm_mesh.specs.declared.mesh.MeshFault.TheVariants.{Radix, Dims, TooManyNodes}
